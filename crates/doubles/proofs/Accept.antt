@@ -1,0 +1,127 @@
+-- Which doubles are usable as coordinates, by the tests of `usable` and `normal_size`, and what their product by the scale is. Assumes nothing.
+use mathlib.Core.Path.{_≡_, refl, sym, ap, _∙_, subst}
+use mathlib.Core.Bool.{Bool, true, false, not, _&&_, _||_, Bool·beq, cond, true≢false, false≢true}
+use Prim.Native.Nat.{ℕ, zero, suc, _+_, _*_, _^_, _<_}
+use native.Mathlib.Nat.{lt-irrefl, zero-mul, one-mul, mul-pos, zero-lt-suc}
+use native.Mathlib.Omega.{arith}
+use lib.IntN.{ℤ, pos}
+use lib.Dec.{T, ltb, eqb, ltb→lt, lt→ltb, eqb→eq}
+use lib.Ieee.{Float, nan, inf, fin, Format, binary64, prec, emax, low, up, down, odd, units, round, neg, mul, lt, eq, fits, isNan}
+use lib.Ieee.Bits.{is-true}
+use lib.Ieee.Fits.{up-pos, and-l, round-is}
+use Rattle.field64.specs.Field.{p64}
+use Rattle.doubles.specs.Doubles.{unusable, element, floorOf, power}
+use Rattle.doubles.specs.Steps.{normalSize, floorMod}
+use Rattle.doubles.proofs.Laws.{mul-power, floor-of-product}
+
+abbrev usable : Float → Bool
+usable x = not (unusable x)
+
+and-true : (b : Bool) → b && true ≡ b
+and-true true = refl
+and-true false = refl
+
+pub clash {ℓ} : {X : Type ℓ} (b : Bool) → b ≡ true → b ≡ false → X
+clash b h g = absurd (true≢false (sym h ∙ g))
+
+-- 0.0 is `fin false 0 (pos 0)`: how a value compares with it
+pub size-pos : (m : ℕ) (e : ℤ) → 0 < suc m * up e * 1
+size-pos m e = mul-pos (mul-pos (zero-lt-suc m) (up-pos e)) (zero-lt-suc 0)
+
+zero-product : (u d : ℕ) → 0 * u * 1 ≡ 0 * 1 * d
+zero-product u d = ap (λ (x : ℕ). x * 1) (zero-mul u) ∙ sym (zero-mul d)
+
+eq-is-zero : (s : Bool) (e : ℤ) → eq (fin s zero e) (fin false 0 (pos 0)) ≡ true
+unfolding eq
+eq-is-zero s e =
+    ap (λ (x : ℕ). eqb x (0 * 1 * down e) && (Bool·beq s false || eqb x 0)) (ap (λ (x : ℕ). x * 1) (zero-mul (up e)))
+    ∙ ap (λ (x : ℕ). eqb 0 x && (Bool·beq s false || true)) (zero-mul (down e)) ∙ or-true (Bool·beq s false)
+  where
+    or-true : (b : Bool) → (b || true) ≡ true
+    or-true true = refl
+    or-true false = refl
+
+never-below-zero : (a d : ℕ) → ltb a (0 * 1 * d) ≡ true → ⊥
+never-below-zero a d h = no (ltb→lt a (0 * 1 * d) (subst T (sym h) tt)) (zero-mul d)
+  where
+    no : a < 0 * d → 0 * d ≡ 0 → ⊥
+    no g e = omega arith
+
+-- a size that is not zero: subnormal or not
+normal-is : (s : Bool) (m : ℕ) (e : ℤ) → normalSize (fin false (suc m) e) ≡ usable (fin s (suc m) e)
+unfolding normalSize unusable lt
+normal-is s m e =
+    and-true (not (ltb (suc m * up e * 2 ^ 1022) (1 * 1 * down e)))
+    ∙ ap (λ (x : ℕ). not (ltb (suc m * up e * 2 ^ 1022) x)) (one-mul (down e))
+    ∙ ap (λ (b : Bool). not (b && ltb (suc m * up e * 2 ^ 1022) (down e))) (sym (is-true (ltb 0 (suc m)) (lt→ltb 0 (suc m) (zero-lt-suc m))))
+
+pub usable-zero : (x : Float) → eq x (fin false 0 (pos 0)) ≡ true → true ≡ usable x
+unfolding eq unusable
+usable-zero nan h = absurd (false≢true h)
+usable-zero (inf s) h = absurd (false≢true h)
+usable-zero (fin s zero e) h = refl
+usable-zero (fin s (suc m) e) h =
+    let z : suc m * up e * 1 ≡ 0 * 1 * down e = eqb→eq (suc m * up e * 1) (0 * 1 * down e) (and-l (eqb (suc m * up e * 1) (0 * 1 * down e)) (Bool·beq s false || eqb (suc m * up e * 1) 0) (subst T (sym h) tt)) in
+    absurd (lt-irrefl 0 (subst (λ (n : ℕ). 0 < n) (z ∙ zero-mul (down e)) (size-pos m e)))
+
+below-zero : (m : ℕ) (e : ℤ) → lt (fin false m e) (fin false 0 (pos 0)) ≡ true → ⊥
+unfolding lt
+below-zero m e h = never-below-zero (m * up e * 1) (down e) h
+
+zero-not-below : (e : ℤ) → lt (fin true zero e) (fin false 0 (pos 0)) ≡ false
+unfolding lt
+zero-not-below e = ap (λ (x : ℕ). ltb 0 (x * 1 + 0 * 1 * down e)) (zero-mul (up e)) ∙ ap (λ (x : ℕ). ltb 0 (0 + x)) (zero-mul (down e))
+
+negative-below : (m : ℕ) (e : ℤ) → lt (fin true (suc m) e) (fin false 0 (pos 0)) ≡ true
+unfolding lt
+negative-below m e = is-true (ltb 0 (suc m * up e * 1 + 0 * 1 * down e)) (lt→ltb 0 (suc m * up e * 1 + 0 * 1 * down e) (more (suc m * up e * 1) (0 * 1 * down e) (size-pos m e)))
+  where
+    more : (a b : ℕ) → 0 < a → 0 < a + b
+    more a b h = omega arith
+
+pub usable-negative : (x : Float) → lt x (fin false 0 (pos 0)) ≡ true → normalSize (neg x) ≡ usable x
+unfolding neg
+usable-negative nan h = absurd (false≢true (unfold lt in h))
+usable-negative (inf true) h = unfold normalSize unusable lt in refl
+usable-negative (inf false) h = absurd (false≢true (unfold lt in h))
+usable-negative (fin true zero e) h = clash (lt (fin true zero e) (fin false 0 (pos 0))) h (zero-not-below e)
+usable-negative (fin true (suc m) e) h = normal-is true m e
+usable-negative (fin false m e) h = absurd (below-zero m e h)
+
+pub usable-positive : (x : Float) → eq x (fin false 0 (pos 0)) ≡ false → lt x (fin false 0 (pos 0)) ≡ false → normalSize x ≡ usable x
+usable-positive nan z h = unfold normalSize unusable lt in refl
+usable-positive (inf true) z h = absurd (true≢false (unfold lt in h))
+usable-positive (inf false) z h = unfold normalSize unusable lt in refl
+usable-positive (fin s zero e) z h = clash (eq (fin s zero e) (fin false 0 (pos 0))) (eq-is-zero s e) z
+usable-positive (fin true (suc m) e) z h = clash (lt (fin true (suc m) e) (fin false 0 (pos 0))) (negative-below m e) h
+usable-positive (fin false (suc m) e) z h = normal-is false m e
+
+-- ---- the product by the scale is a number, and its floor the element's
+odd-number : (d : ℕ) (s : Bool) (q k l : ℕ) → T (not (isNan (odd d s q k l)))
+unfolding odd isNan
+odd-number d s zero k l = tt
+odd-number d s (suc q) k l = tt
+
+units-number : (b : Format) (s : Bool) (q k : ℕ) → T (not (isNan (units b s q k)))
+unfolding units isNan
+units-number b s q k = go (ltb (q * 2 ^ k) (2 ^ (low b + suc (emax b))))
+  where
+    go : (t : Bool) → T (not (isNan (cond t (odd (suc (prec b)) s q k (low b)) (inf s))))
+    go true = odd-number (suc (prec b)) s q k (low b)
+    go false = tt
+
+round-number : (b : Format) (s : Bool) (a c : ℕ) → T (not (isNan (round b s a c)))
+round-number b s a c = subst (λ (z : Float). T (not (isNan z))) (sym (round-is b s a c)) (units-number b s _ _)
+
+pub product-is-number : (x : Float) (f : ℕ) → unusable x ≡ false → T (not (isNan (mul binary64 x (power f))))
+unfolding unusable
+product-is-number nan f h = absurd (true≢false h)
+product-is-number (inf s) f h = absurd (true≢false h)
+product-is-number (fin s m e) f h = subst (λ (z : Float). T (not (isNan z))) (sym (mul-power binary64 s m e f)) (round-number binary64 s (m * up e * 2 ^ f) (down e))
+
+-- the floor of the product, clamped, modulo p is the element
+pub product-is-element : (x : Float) (f : ℕ) → T (fits binary64 x) → unusable x ≡ false → floorMod (mul binary64 x (power f)) ≡ element p64 x f
+unfolding unusable
+product-is-element nan f t h = absurd (true≢false h)
+product-is-element (inf s) f t h = absurd (true≢false h)
+product-is-element (fin s m e) f t h = floor-of-product s m e f t

@@ -1,0 +1,6 @@
+-- The laws that the proofs of the functions cite. `Laws`: the product by 2 ^ k, the quotient and the floor by value. `Floor`: what the code's tests on a double say of its floor.
+-- `Accept`: which doubles are refused.
+pub mod Laws
+pub mod Floor
+pub mod Accept
+pub mod Sense

@@ -1,0 +1,201 @@
+// A double as an element of Field64, and back. specs/Doubles.antt says what the two public calls,
+// f64_to_field and field_to_f64, answer for any arguments. The other pub functions are for loops
+// over rows: they take the ready scale, 2^frac_bits, which a row's caller makes once.
+use rules::Answer;
+ghost use mathlib.Core.Path.{_≡_};
+ghost use mathlib.Core.Bool.{false, not};
+ghost use Prim.Native.Nat.{_-_, _%_, _≤_, _<_};
+ghost use lib.Dec.{T};
+ghost use lib.Ieee.{isNan};
+ghost use Rattle.field64.specs.Field.{p64};
+ghost use Rattle.doubles.specs.Doubles.{fracBitsRule, power, unusable, element, encoded, coordinateOf, decoded, decodedOf};
+ghost use Rattle.doubles.specs.Steps.{floorMod, normalSize};
+
+// The largest frac_bits.
+const MAX_FRAC_BITS: u64 = 30;
+
+// (p - 1) / 2.
+const HALF: u64 = 0x7fff_ffff_8000_0000;
+
+// An element, which is 0 beside a refusal.
+#[repr(C)]
+pub struct Coordinate {
+    pub answer: Answer,
+    pub element: u64,
+}
+
+// A double, which is +0 beside a refusal.
+#[repr(C)]
+pub struct Decoded {
+    pub answer: Answer,
+    pub value: f64,
+}
+
+// Rule 4.
+pub fn check_frac_bits(frac_bits: u64) -> Answer
+    ensures { λ r. ⌜ r ≡ fracBitsRule «frac_bits» ⌝ }
+{
+    Answer::refuse_if(MAX_FRAC_BITS < frac_bits, rules::FRAC_BITS, 0)
+}
+
+// 2^frac_bits.
+pub fn scale_of(frac_bits: u64) -> f64
+    requires { ⌜ «frac_bits» ≤ 30 ⌝ }
+    ensures { λ r. ⌜ r ≡ power «frac_bits» ⌝ }
+{
+    (1u64 << frac_bits) as f64
+}
+
+// n modulo p.
+fn reduced(n: u64) -> u64
+    ensures { λ r. ⌜ r ≡ n % p64 ⌝ }
+{
+    if n < field64::P { n } else { n - field64::P }
+}
+
+// -n modulo p, for an n above 0.
+fn negated(n: u64) -> u64
+    requires { ⌜ 1 ≤ n ⌝ }
+    ensures { λ r. ⌜ r ≡ p64 - 1 - (n - 1) % p64 ⌝ }
+{
+    if n <= field64::P {
+        field64::P - n
+    } else {
+        field64::P - (n - field64::P)
+    }
+}
+
+// Whether a, which is not negative, is neither subnormal nor infinite nor a NaN.
+fn normal_size(a: f64) -> bool
+    ensures { λ r. ⌜ r ≡ normalSize a ⌝ }
+{
+    if a < 2.2250738585072014e-308 {
+        false
+    } else {
+        a < 1.0 / 0.0
+    }
+}
+
+// Whether x is zero, or normal.
+pub fn usable(x: f64) -> bool
+    ensures { λ r. ⌜ r ≡ not (unusable x) ⌝ }
+{
+    if x == 0.0 {
+        return true;
+    }
+    if x < 0.0 {
+        normal_size(-x)
+    } else {
+        normal_size(x)
+    }
+}
+
+// The floor of w, clamped to 2^64 - 1 either way, modulo p. Below zero, the size of the floor is
+// the whole part of -w, and one more where that leaves something of -w.
+fn floor_to_field(w: f64) -> u64
+    requires { ⌜ T (not (isNan w)) ⌝ }
+    ensures { λ r. ⌜ r ≡ floorMod w ⌝ }
+{
+    if w < 0.0 {
+        let a = -w;
+        if a < 18446744073709551616.0 {
+            let t = std::num::truncating_f64_to_u64(a);
+            if std::num::nearest_u64_to_f64(t) < a {
+                negated(t + 1)
+            } else {
+                negated(t)
+            }
+        } else {
+            negated(0xffff_ffff_ffff_ffff)
+        }
+    } else if w < 18446744073709551616.0 {
+        reduced(std::num::truncating_f64_to_u64(w))
+    } else {
+        reduced(0xffff_ffff_ffff_ffff)
+    }
+}
+
+// The element of a usable x at the scale 2^frac_bits.
+pub fn element_of(x: f64, scale: f64, frac_bits: u64) -> u64
+    requires { ⌜ unusable x ≡ false ⌝ ∗ ⌜ scale ≡ power «frac_bits» ⌝ }
+    ensures { λ r. ⌜ r ≡ element p64 x «frac_bits» ⌝ }
+{
+    floor_to_field(x * scale)
+}
+
+// x at the scale 2^frac_bits, or rule 8.
+pub fn encode(x: f64, scale: f64, frac_bits: u64) -> Coordinate
+    requires { ⌜ scale ≡ power «frac_bits» ⌝ }
+    ensures { λ r. ⌜ r ≡ encoded p64 x «frac_bits» ⌝ }
+{
+    if usable(x) {
+        Coordinate {
+            answer: Answer::accepted(),
+            element: element_of(x, scale, frac_bits),
+        }
+    } else {
+        Coordinate {
+            answer: Answer {
+                number: rules::COORDINATE,
+                place: 0,
+            },
+            element: 0,
+        }
+    }
+}
+
+// The double of y at the scale 2^frac_bits.
+pub fn decode(y: u64, scale: f64, frac_bits: u64) -> f64
+    requires { ⌜ y < p64 ⌝ ∗ ⌜ scale ≡ power «frac_bits» ⌝ }
+    ensures { λ r. ⌜ r ≡ decoded p64 y «frac_bits» ⌝ }
+{
+    if HALF < y {
+        -std::num::nearest_u64_to_f64(field64::P - y) / scale
+    } else {
+        std::num::nearest_u64_to_f64(y) / scale
+    }
+}
+
+// The double x as a field number.
+pub fn f64_to_field(x: f64, frac_bits: u64) -> Coordinate
+    ensures { λ r. ⌜ r ≡ coordinateOf p64 x «frac_bits» ⌝ }
+{
+    if MAX_FRAC_BITS < frac_bits {
+        return Coordinate {
+            answer: Answer {
+                number: rules::FRAC_BITS,
+                place: 0,
+            },
+            element: 0,
+        };
+    }
+    encode(x, scale_of(frac_bits), frac_bits)
+}
+
+// The field number y as a double.
+pub fn field_to_f64(y: u64, frac_bits: u64) -> Decoded
+    ensures { λ r. ⌜ r ≡ decodedOf p64 y «frac_bits» ⌝ }
+{
+    if MAX_FRAC_BITS < frac_bits {
+        return Decoded {
+            answer: Answer {
+                number: rules::FRAC_BITS,
+                place: 0,
+            },
+            value: 0.0,
+        };
+    }
+    if field64::P <= y {
+        return Decoded {
+            answer: Answer {
+                number: rules::ELEMENT,
+                place: 0,
+            },
+            value: 0.0,
+        };
+    }
+    Decoded {
+        answer: Answer::accepted(),
+        value: decode(y, scale_of(frac_bits), frac_bits),
+    }
+}

@@ -1,0 +1,7 @@
+-- The laws of arithmetic modulo any number (`Modular`, `Ring`, `Sums`, `Inverse`), and what the proofs of Field64's functions cite (`Halves`, `Residue`).
+pub mod Modular
+pub mod Ring
+pub mod Sums
+pub mod Inverse
+mod Halves
+mod Residue

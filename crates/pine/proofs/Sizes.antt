@@ -1,0 +1,145 @@
+-- What follows for the record of accepted inputs: the derived numbers are what they are called, and none of them can overflow. Assumes nothing.
+use mathlib.Core.Path.{_≡_, refl, sym, ap, _∙_}
+use Prim.Native.Nat.{ℕ, suc, _+_, _-_, _*_, _/_, _^_, _≤_, _<_}
+use native.Mathlib.Nat.{mul-le-mul, mul-pos, le-refl, le-trans, lt-of-le-of-lt, pow-suc}
+use native.Mathlib.Omega.{arith}
+use lib.Dec.{lit<, lit≤}
+use lib.Pow.{pow-pos, pow-mono}
+use Rattle.field64.specs.Field.{p64}
+use Rattle.rules.specs.Rules.{accepted}
+use Rattle.pine.specs.declared.PineParam.{PineParam}
+use Rattle.pine.specs.declared.record.Pine.{Pine}
+use Rattle.pine.specs.Param.{Field, Field64, paramAnswer}
+use Rattle.pine.specs.Record.{ceilDiv, digits, testBoundOf, sqNormBound, sqNormBits, wrTestBound, wrTestBits, bitCheckedLen, encodedInputLen, inputLen, gadgetCalls, gadgetCallsNorm, pineOf, FromAccepted}
+use Rattle.pine.proofs.Digits.{digits-above, digits-least, digits-twice, digits-power, ceil-le}
+use Rattle.pine.proofs.Limits.{Limits, limits}
+
+-- ---- the derived numbers are what they are called
+module _ (i : PineParam) where
+  -- b is a power of two not below ceil (87n / 10) + 1, and no greater than any other such
+  pub bound-above : ceilDiv (87 * i .«norm_bound») 10 + 1 ≤ wrTestBound i
+  unfolding wrTestBound
+  bound-above = omega (arith, digits-above (ceilDiv (87 * i .«norm_bound») 10))
+
+  pub bound-least : (k : ℕ) → ceilDiv (87 * i .«norm_bound») 10 + 1 ≤ 2 ^ k → wrTestBound i ≤ 2 ^ k
+  unfolding wrTestBound
+  bound-least k h = pow-mono (digits-least (ceilDiv (87 * i .«norm_bound») 10) k (omega arith))
+
+  pub bound-power : (k : ℕ) × (wrTestBound i ≡ 2 ^ k)
+  unfolding wrTestBound
+  bound-power = (digits (ceilDiv (87 * i .«norm_bound») 10), refl)
+
+  pub bound-positive : 0 < wrTestBound i
+  unfolding wrTestBound
+  bound-positive = pow-pos (digits (ceilDiv (87 * i .«norm_bound») 10))
+
+  -- 2 ^ w is 2b
+  pub bits-power : 2 ^ wrTestBits i ≡ 2 * wrTestBound i
+  unfolding wrTestBits wrTestBound
+  bits-power = digits-power (digits (ceilDiv (87 * i .«norm_bound») 10))
+
+  -- B has q digits
+  pub norm-digits : 0 < i .«norm_bound» → (2 ^ sqNormBits i ≤ 2 * sqNormBound i) × (sqNormBound i < 2 ^ sqNormBits i)
+  unfolding sqNormBits sqNormBound
+  norm-digits h = (digits-twice _ (mul-pos h h), digits-above _)
+
+-- ---- how large they are, where the norm bound has 32 bits
+pub record Sizes (i : PineParam) : Type 0 where
+  pub norm : sqNormBound i < 2 ^ 64
+  pub norm-bits : sqNormBits i ≤ 64
+  pub bound : wrTestBound i ≤ 2 ^ 36
+  pub bound-bits : wrTestBits i ≤ 37
+  pub test-bits : (1 + wrTestBits i) * i .«num_wr_tests» ≤ 38 * 256
+  pub checked : bitCheckedLen i ≤ 2 * 64 + 38 * 256
+  pub encoded : encodedInputLen i ≤ 65536 + (2 * 64 + 38 * 256)
+  pub input : inputLen i ≤ 65536 + (2 * 64 + 38 * 256) + 256
+  pub calls : gadgetCalls i ≤ 2 * 64 + 38 * 256 + 256
+  pub calls-norm : gadgetCallsNorm i ≤ 65536
+
+module _ (F : Field) (i : PineParam) (narrow : F .normLimit ≤ 4294967295) (l : Limits F i) where
+  norm : sqNormBound i < 2 ^ 64
+  unfolding sqNormBound
+  norm = lt-of-le-of-lt (mul-le-mul (le-trans (l .norm .1) narrow) (le-trans (l .norm .1) narrow)) (lit< tt)
+
+  norm-bits : sqNormBits i ≤ 64
+  unfolding sqNormBits
+  norm-bits = digits-least _ 64 norm
+
+  bound : wrTestBound i ≤ 2 ^ 36
+  bound = bound-least i 36 (omega (arith, l .norm .1))
+
+  bound-bits : wrTestBits i ≤ 37
+  unfolding wrTestBits
+  bound-bits = digits-least _ 37 (omega (arith, bound, bound-positive i))
+
+  test-bits : (1 + wrTestBits i) * i .«num_wr_tests» ≤ 38 * 256
+  test-bits =
+      let h : 1 + wrTestBits i ≤ 38 = omega (arith, bound-bits) in
+      mul-le-mul h (l .tests .1)
+
+  checked : bitCheckedLen i ≤ 2 * 64 + 38 * 256
+  unfolding bitCheckedLen
+  checked = omega (arith, norm-bits, test-bits)
+
+  encoded : encodedInputLen i ≤ 65536 + (2 * 64 + 38 * 256)
+  unfolding encodedInputLen
+  encoded = omega (arith, checked, l .dimension .1)
+
+  input : inputLen i ≤ 65536 + (2 * 64 + 38 * 256) + 256
+  unfolding inputLen
+  input = omega (arith, encoded, l .tests .1)
+
+  calls : gadgetCalls i ≤ 2 * 64 + 38 * 256 + 256
+  unfolding gadgetCalls
+  calls = omega (arith, ceil-le (bitCheckedLen i) (i .«chunk_len») (l .chunk .0), ceil-le (i .«num_wr_tests») (i .«chunk_len») (l .chunk .0), checked, l .tests .1)
+
+  calls-norm : gadgetCallsNorm i ≤ 65536
+  unfolding gadgetCallsNorm
+  calls-norm = omega (arith, ceil-le (i .dimension) (i .«chunk_len_sq_norm_equal») (l .chunk-norm .0), l .dimension .1)
+
+  pub sizes : Sizes i
+  sizes = record {
+    norm = norm;
+    norm-bits = norm-bits;
+    bound = bound;
+    bound-bits = bound-bits;
+    test-bits = test-bits;
+    checked = checked;
+    encoded = encoded;
+    input = input;
+    calls = calls;
+    calls-norm = calls-norm;
+  }
+
+-- ---- Field64 has room
+pub limits-64 : (i : PineParam) → paramAnswer Field64 i ≡ accepted → Limits Field64 i
+limits-64 i e = limits Field64 i (ap (λ a. a .number) e)
+
+pub sizes-64 : (i : PineParam) → paramAnswer Field64 i ≡ accepted → Sizes i
+sizes-64 i e = sizes Field64 i (lit≤ tt) (limits-64 i e)
+
+-- 2b is below p, and so is B
+pub bound-64 : (i : PineParam) → paramAnswer Field64 i ≡ accepted → 2 * wrTestBound i < p64
+bound-64 i e = omega (arith, sizes-64 i e .bound)
+
+pub norm-64 : (i : PineParam) → paramAnswer Field64 i ≡ accepted → sqNormBound i < p64
+unfolding sqNormBound
+norm-64 i e =
+    let l = limits-64 i e .norm .1 in
+    lt-of-le-of-lt (mul-le-mul l l) (lit< tt)
+
+-- ---- a record that was derived from accepted inputs
+pub record Small (r : Pine) : Type 0 where
+  pub dimension : r .dimension ≤ 65536
+  pub tests : r .«num_wr_tests» ≤ 256
+  pub chunk : r .«chunk_len» ≤ 65536
+  pub chunk-norm : r .«chunk_len_sq_norm_equal» ≤ 65536
+  pub calls : r .«gadget_calls» ≤ 2 * 64 + 38 * 256 + 256
+  pub calls-norm : r .«gadget_calls_sq_norm_equal» ≤ 65536
+
+pub small : (r : Pine) → FromAccepted Field64 r → Small r
+unfolding pineOf
+small r f =
+    let l = limits-64 (f .param) (f .accepts) in
+    let s = sizes-64 (f .param) (f .accepts) in
+    rw (f .is) (record { dimension = l .dimension .1; tests = l .tests .1; chunk = l .chunk .1; chunk-norm = l .chunk-norm .1; calls = s .calls; calls-norm = s .calls-norm })

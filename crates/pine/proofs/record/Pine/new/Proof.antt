@@ -1,0 +1,147 @@
+-- `pine::record::Pine::new` meets its contract. Assumes nothing.
+use borrow.Author.Needs.{needs}
+use mathlib.Core.Path.{_≡_, refl, ap, _∙_}
+use Prim.Native.Nat.{ℕ, _+_, _-_, _*_, _^_, _≤_, _<_}
+use native.Mathlib.Omega.{arith}
+use Rattle.pine.specs.declared.PineParam.{PineParam}
+use Rattle.pine.specs.Record.{digits, sqNormBound, sqNormBits, wrTestBound, wrTestBits, bitCheckedLen, encodedInputLen, inputLen, gadgetCalls, gadgetCallsNorm, pineOf}
+use Rattle.rules.specs.Rules.{accepted}
+use Rattle.pine.specs.Param.{Field64, paramAnswer}
+use Rattle.pine.proofs.Digits.{ceil-le}
+use Rattle.pine.proofs.Limits.{Limits}
+use Rattle.pine.proofs.Sizes.{bound-positive, limits-64, sizes-64}
+use Rattle.pine.proofs.record.Pine.new.Statement.{statement}
+use Rattle.pine.proofs.record.Pine.new.Tie as tie
+use Rattle.pine.proofs.record.Pine.new.Reads as reads
+use Rattle.pine.proofs.record.Pine.new.Lts as lts
+
+-- how large the locals are
+record Known (i : PineParam) (q w : ℕ) : Type 0 where
+  norm-bits : q ≤ 64
+  bound-bits : w ≤ 37
+  test-bits : (1 + w) * i .«num_wr_tests» ≤ 38 * 256
+  limits : Limits Field64 i
+
+known-of : (i : PineParam) (q w : ℕ) → paramAnswer Field64 i ≡ accepted → q ≡ sqNormBits i → w ≡ wrTestBits i → Known i q w
+known-of i q w a e f =
+    let z = sizes-64 i a in
+    rw (e, f) (record { norm-bits = z .norm-bits; bound-bits = z .bound-bits; test-bits = z .test-bits; limits = limits-64 i a })
+
+-- what the locals are, where all of them are known
+module _ (c : tie.After-bits2) where
+  abbrev start : tie.Start
+  start = c .before .before .before .before
+
+  abbrev param : PineParam
+  param = start .args .param
+
+  q-is : c .before .before .bits .result ≡ sqNormBits param
+  unfolding sqNormBits sqNormBound
+  q-is = c .before .before .bits .ensures
+
+  b-is : c .before .wr-test-bound .result ≡ wrTestBound param
+  unfolding wrTestBound
+  b-is = c .before .wr-test-bound .ensures
+
+  w-is : c .bits2 .result ≡ wrTestBits param
+  unfolding wrTestBits
+  w-is = c .bits2 .ensures ∙ ap (λ (b : ℕ). digits (2 * b - 1)) b-is
+
+  known : Known param (c .before .before .bits .result) (c .bits2 .result)
+  known = known-of param _ _ (start .pre) q-is w-is
+
+bound-known : (c : tie.After-wr-test-bound) → (0 < c .wr-test-bound .result) × (c .wr-test-bound .result ≤ 2 ^ 36)
+unfolding wrTestBound
+bound-known c =
+    let s = c .before .before .before in
+    rw (c .wr-test-bound .ensures) (bound-positive (s .args .param), sizes-64 (s .args .param) (s .pre) .bound)
+
+mul-sq-norm-bound : tie.Need-mul-sq-norm-bound
+mul-sq-norm-bound c = record { fits = unfold sqNormBound in sizes-64 (c .before .args .param) (c .before .pre) .norm }
+
+bits-requires : tie.Need-bits-requires
+bits-requires c κs = search needs
+
+wr-test-bound-requires : tie.Need-wr-test-bound-requires
+wr-test-bound-requires c κs = limits-64 (c .before .before .args .param) (c .before .before .pre) .norm .1
+
+mul-bits : tie.Need-mul-bits
+mul-bits c = omega (arith, bound-known c)
+
+sub-bits : tie.Need-sub-bits
+sub-bits c = omega (arith, bound-known c)
+
+bits-requires-2 : tie.Need-bits-requires-2
+bits-requires-2 c κs = search needs
+
+mul-bit-checked-len : tie.Need-mul-bit-checked-len
+mul-bit-checked-len c = omega (arith, known c)
+
+add-bit-checked-len : tie.Need-add-bit-checked-len
+add-bit-checked-len c = omega (arith, known c)
+
+mul-bit-checked-len-2 : tie.Need-mul-bit-checked-len-2
+mul-bit-checked-len-2 c = omega (arith, known (c .before))
+
+add-bit-checked-len-2 : tie.Need-add-bit-checked-len-2
+add-bit-checked-len-2 c = omega (arith, known (c .before))
+
+add-encoded-input-len : tie.Need-add-encoded-input-len
+add-encoded-input-len c = omega (arith, known (c .before .before))
+
+scale-of-requires : tie.Need-scale-of-requires
+scale-of-requires c κs = known (c .before .before) .limits .fraction
+
+add-t8 : tie.Need-add-t8
+add-t8 c = omega (arith, known (c .before .before .before .before))
+
+chunk-count-requires : tie.Need-chunk-count-requires
+chunk-count-requires c κs =
+    let k = known (c .before .before .before .before) in
+    (k .limits .chunk .0, (k .limits .chunk .1, omega arith))
+
+chunk-count-requires-2 : tie.Need-chunk-count-requires-2
+chunk-count-requires-2 c κs =
+    let k = known (c .before .before .before .before .before) in
+    (k .limits .chunk .0, (k .limits .chunk .1, omega arith))
+
+add-t12 : tie.Need-add-t12
+add-t12 c =
+    let k = known (c .before .before .before .before .before .before) in
+    let b = c .before .before .before .before .before .before in
+    let i = param b in
+    omega (arith, c .before .chunk-count .ensures, c .chunk-count2 .ensures, ceil-le (2 * b .before .before .bits .result + (1 + b .bits2 .result) * i .«num_wr_tests») (i .«chunk_len») (k .limits .chunk .0), ceil-le (i .«num_wr_tests») (i .«chunk_len») (k .limits .chunk .0))
+
+chunk-count-requires-3 : tie.Need-chunk-count-requires-3
+chunk-count-requires-3 c κs =
+    let k = known (c .before .before .before .before .before .before) in
+    (k .limits .chunk-norm .0, (k .limits .chunk-norm .1, omega arith))
+
+returns : tie.Need-returns
+unfolding pineOf inputLen encodedInputLen bitCheckedLen gadgetCalls gadgetCallsNorm sqNormBound
+returns c =
+    let b = c .before .before .before .before .before .before .before in
+    simp (c .chunk-count3 .ensures, c .before .chunk-count2 .ensures, c .before .before .chunk-count .ensures, c .before .before .before .before .scale-of .ensures, q-is b, b-is b, w-is b)
+
+pub new-spec : {M : Type 1} → statement M
+new-spec =
+    tie.close
+    (tie.spec
+    mul-sq-norm-bound
+    bits-requires
+    wr-test-bound-requires
+    mul-bits
+    sub-bits
+    bits-requires-2
+    mul-bit-checked-len
+    add-bit-checked-len
+    mul-bit-checked-len-2
+    add-bit-checked-len-2
+    add-encoded-input-len
+    scale-of-requires
+    add-t8
+    chunk-count-requires
+    chunk-count-requires-2
+    add-t12
+    chunk-count-requires-3
+    returns)

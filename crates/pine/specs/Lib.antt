@@ -1,0 +1,3 @@
+pub mod Param
+pub mod Record
+pub mod Rows

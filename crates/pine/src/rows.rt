@@ -1,0 +1,87 @@
+// Internal: the rules that every call tests on its rows, and loops over rows. A function here asks
+// its caller for what it does not test itself.
+use rules::Answer;
+ghost use mathlib.Core.Path.{_≡_};
+ghost use Prim.Native.Nat.{_+_, _<_, _^_};
+ghost use lib.ListN.{length, replicate};
+ghost use Rattle.field64.specs.Field.{p64};
+ghost use Rattle.pine.specs.Rows.{rowRule, firstBad, elementsFrom, highHalves};
+
+// Rule 7, of the row at a place.
+pub fn check_len(place: u64, len: usize, expected: u64) -> Answer
+    ensures { λ r. ⌜ r ≡ rowRule place len expected ⌝ }
+{
+    if len as u64 == expected {
+        Answer::accepted()
+    } else {
+        Answer {
+            number: rules::ROW_LEN,
+            place,
+        }
+    }
+}
+
+// How many elements have an upper half of 2^32 - 1: none below p has. The loop has no branch on the
+// data, so that it runs on vectors.
+fn high_halves(row: &[u64]) -> u64
+    ensures { λ r. ⌜ r ≡ highHalves (now (row .entry)) ⌝ }
+{
+    let mut count = 0;
+    let mut i = 0;
+    while i < row.len() {
+        count += ((row[i] >> 32) + 1) >> 32;
+        i += 1;
+    }
+    count
+}
+
+// The index of the first element that is not below p, or the length where there is none.
+fn search(row: &[u64]) -> usize
+    ensures { λ r. ⌜ r ≡ firstBad p64 (now (row .entry)) ⌝ }
+{
+    let mut i = 0;
+    while i < row.len() {
+        if row[i] >= field64::P {
+            return i;
+        }
+        i += 1;
+    }
+    i
+}
+
+// The same: a row with no high half has none, and only another is searched.
+fn first_bad(row: &[u64]) -> usize
+    ensures { λ r. ⌜ r ≡ firstBad p64 (now (row .entry)) ⌝ }
+{
+    if high_halves(row) == 0 {
+        return row.len();
+    }
+    search(row)
+}
+
+// Rule 12, of a row whose elements are counted from start.
+pub fn check_elements(row: &[u64], start: usize) -> Answer
+    requires { ⌜ start + length (now row) < 2 ^ 64 ⌝ }
+    ensures { λ r. ⌜ r ≡ elementsFrom p64 start (now (row .entry)) ⌝ }
+{
+    let bad = first_bad(row);
+    if bad < row.len() {
+        Answer {
+            number: rules::ELEMENT,
+            place: (start + bad) as u64,
+        }
+    } else {
+        Answer::accepted()
+    }
+}
+
+// Sets each element to 0.
+pub fn zero_row(row: &mut [u64])
+    ensures { λ _. ⌜ now (row .exit) ≡ replicate (length (now (row .entry))) 0 ⌝ }
+{
+    let mut i = 0;
+    while i < row.len() {
+        row[i] = 0;
+        i += 1;
+    }
+}

@@ -1,0 +1,2 @@
+-- The laws of chains of rules.
+pub mod Chain

@@ -1,0 +1,79 @@
+// What every call answers: the number and the place of the first rule broken, or 0 and 0. The
+// table of the rules is specs/Rules.antt; here stand their numbers, by name.
+ghost use mathlib.Core.Path.{_≡_};
+ghost use mathlib.Core.Bool.{cond};
+ghost use lib.Dec.{eqb};
+ghost use Rattle.rules.specs.Rules.{answer, accepted, refuse, first, outOf};
+
+// num_wr_successes above num_wr_tests.
+pub const NUM_WR_SUCCESSES: u64 = 1;
+
+pub const NORM_BOUND: u64 = 2;
+
+pub const DIMENSION: u64 = 3;
+
+pub const FRAC_BITS: u64 = 4;
+// Of either chunk length.
+pub const CHUNK_LEN: u64 = 5;
+
+pub const NUM_WR_TESTS: u64 = 6;
+// A row's length is other than derived.
+pub const ROW_LEN: u64 = 7;
+// A coordinate is NaN, infinite or subnormal.
+pub const COORDINATE: u64 = 8;
+
+pub const GRADIENT_LEN: u64 = 9;
+// The squared norm, as a field number, is above its bound.
+pub const SQ_NORM: u64 = 10;
+// A wraparound test's result is out of range.
+pub const WR_TEST: u64 = 11;
+// An element is not below the field's modulus.
+pub const ELEMENT: u64 = 12;
+
+pub const NUM_SHARES: u64 = 13;
+
+// The rule that was broken and its place, or 0 and 0.
+#[repr(C)]
+pub struct Answer {
+    pub number: u64,
+    pub place: u64,
+}
+
+impl Answer {
+    pub fn accepted() -> Answer
+        ensures { λ r. ⌜ r ≡ accepted ⌝ }
+    {
+        Answer {
+            number: 0,
+            place: 0,
+        }
+    }
+
+    // The refusal of a rule where it is broken.
+    pub fn refuse_if(broken: bool, number: u64, place: u64) -> Answer
+        ensures { λ r. ⌜ r ≡ refuse broken number place ⌝ }
+    {
+        if broken {
+            Answer { number, place }
+        } else {
+            Answer {
+                number: 0,
+                place: 0,
+            }
+        }
+    }
+
+    // This answer where it is a refusal, or else the next.
+    pub fn or(self, next: Answer) -> Answer
+        ensures { λ r. ⌜ r ≡ first self next ⌝ }
+    {
+        if self.number == 0 { next } else { self }
+    }
+}
+
+// Whether x is 0 or above max.
+pub fn outside(x: u64, max: u64) -> bool
+    ensures { λ r. ⌜ r ≡ outOf x max ⌝ }
+{
+    x == 0 || max < x
+}
