@@ -1,0 +1,13 @@
+-- The laws of the definitions, over any modulus: `Bits`, `Tests`, `Gradient`, `Circuits` and `Readings` of the pieces, `Encoded` and `Valid` of an accepted encoding, `Sense` of names,
+-- `Examples` and `Compared` of worked rows; and what the proofs of the functions cite (`Columns`).
+pub mod Bits
+pub mod Tests
+pub mod Columns
+pub mod Gradient
+pub mod Circuits
+pub mod Readings
+pub mod Encoded
+pub mod Valid
+pub mod Sense
+mod Examples
+mod Compared
