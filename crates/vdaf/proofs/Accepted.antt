@@ -66,8 +66,7 @@ module _ (F : Field) (i : PineParam) where
     unfolding unshardAnswer
     unsharded h =
         let r = passed (unshardRules F i left right row) h in
-        let b = below-parts (F .p) left right (elements-below (F .p) 0 (left ++ right) (r .1 .1 .1 .1 .0)) in
-        (
+        let b = below-parts (F .p) left right (elements-below (F .p) 0 (left ++ right) (r .1 .1 .1 .1 .0)) in (
           record {
             param = param-accepted F i (r .0);
             left-long = length-is 1 (length left) (i .dimension) (r .1 .0);
