@@ -6,7 +6,7 @@ use record::Pine;
 use rules::Answer;
 
 mod record;
-mod rows;
+pub mod rows;
 
 ghost use mathlib.Core.Path.{_≡_};
 ghost use Rattle.rules.specs.Rules.{refuse, outOf};
