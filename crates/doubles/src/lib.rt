@@ -144,16 +144,19 @@ pub fn encode(x: f64, scale: f64, frac_bits: u64) -> Coordinate
     }
 }
 
-// The double of y at the scale 2^frac_bits.
+// The double of y at the scale 2^frac_bits. The sign is the divisor's, and the top bit of HALF - y is
+// its index: in this form no branch is left in the machine code.
 pub fn decode(y: u64, scale: f64, frac_bits: u64) -> f64
     requires { ⌜ y < p64 ⌝ ∗ ⌜ scale ≡ power «frac_bits» ⌝ }
     ensures { λ r. ⌜ r ≡ decoded p64 y «frac_bits» ⌝ }
 {
+    let divisors = [scale, -scale];
+    let sign = (std::num::wrapping_sub_u64(HALF, y) >> 63) as usize;
+    let mut size = y;
     if HALF < y {
-        -std::num::nearest_u64_to_f64(field64::P - y) / scale
-    } else {
-        std::num::nearest_u64_to_f64(y) / scale
+        size = field64::P - y;
     }
+    std::num::nearest_u64_to_f64(size) / divisors[sign]
 }
 
 // The double x as a field number.
