@@ -1,21 +1,21 @@
--- A test taken byte by byte: what byte j adds, for the coordinates 4j to 4j + 3, one past the end counting as 0. Assumes nothing.
+-- The tests taken byte by byte: what byte j adds, for the coordinates 4j to 4j + 3, one past the end counting as 0. Assumes nothing.
 use mathlib.Core.Path.{_≡_, refl, sym, ap, _∙_}
 use mathlib.Core.Bool.{Bool, true, false, cond}
 use mathlib.Core.List.{List, [], _∷_}
-use Prim.Native.Nat.{ℕ, zero, suc, _+_, _*_, _/_, _%_, _<_}
-use native.Mathlib.Nat.{mod-self, zero-mod}
+use Prim.Native.Nat.{ℕ, zero, suc, _+_, _*_, _%_, _≤_, _<_}
+use native.Mathlib.Nat.{mod-self, zero-mod, suc-mul}
 use native.Mathlib.Omega.{arith}
-use lib.ListN.{length, getD, take, drop}
-use lib.Seq.{take-nil, getD-drop}
+use lib.ListN.{length, getD, take, drop, replicate, length-drop, length-replicate}
+use lib.Seq.{take-nil, take-all, getD-drop, getD-take, length-take-le}
 use lib.Dec.{eqb}
 use Rattle.field64.specs.Field.{addMod, subMod}
-use Rattle.field64.specs.Sums.{evaluate, total}
+use Rattle.field64.specs.Sums.{evaluate}
 use Rattle.field64.proofs.Modular.{modular}
-use Rattle.flp.specs.Tests.{pairs, weighed, weigh, testOf}
-
--- what a byte adds for four coordinates
-unfoldable pub column : (p byte a b c d : ℕ) → ℕ
-column p byte a b c d = total p (weighed p (byte % 4) a ∷ weighed p (byte / 4 % 4) b ∷ weighed p (byte / 16 % 4) c ∷ weighed p (byte / 64 % 4) d ∷ [])
+use Rattle.pine.specs.Rows.{Below}
+use Rattle.flp.specs.Bits.{groups}
+use Rattle.flp.specs.Tests.{pairs, weighed, weigh, testOf, testsOf}
+use Rattle.flp.specs.Columns.{column, addColumn}
+use Rattle.flp.proofs.Tests.{tests-below}
 
 module _ (p : ℕ) where
   weighed-zero : (c : ℕ) → weighed p c 0 ≡ 0
@@ -64,3 +64,48 @@ module _ (p : ℕ) where
 
       start : (m n : ℕ) → m ≡ suc (suc (suc (suc n))) → testOf p (take m xs) (b ∷ bs) ≡ addMod p (column p b (getD xs 0 0) (getD xs 1 0) (getD xs 2 0) (getD xs 3 0)) (testOf p (take n (drop 4 xs)) bs)
       start m n e = ap (λ (k : ℕ). testOf p (take k xs) (b ∷ bs)) e ∙ front n b bs xs
+
+  -- ---- a column of all the tests
+
+  -- after none of the coordinates
+  pub tests-none : (per T : ℕ) (s xs : List ℕ) → testsOf p per T s (take 0 xs) ≡ replicate T 0
+  unfolding testsOf groups
+  tests-none per zero s xs = refl
+  tests-none per (suc T) s xs = (λ i. test-nil (take per s) i ∷ tests-none per T (drop per s) xs i)
+
+  -- after the first 4j, the next four
+  module _ (per j : ℕ) (xs : List ℕ) (h : j < per) where
+    one : (s : List ℕ) → per ≤ length s
+        → addMod p (testOf p (take (4 * j) xs) (take per s)) (column p (getD s j 0) (getD xs (4 * j) 0) (getD xs (4 * j + 1) 0) (getD xs (4 * j + 2) 0) (getD xs (4 * j + 3) 0)) ≡ testOf p (take (4 * j + 4) xs) (take per s)
+    one s l = rw (← getD-take per s j 0 h) (sym (next-column (take per s) xs j (rw (length-take-le per s l) h)))
+
+    pub tests-next : (T : ℕ) (s : List ℕ) → T * per ≤ length s
+        → addColumn p per j (getD xs (4 * j) 0) (getD xs (4 * j + 1) 0) (getD xs (4 * j + 2) 0) (getD xs (4 * j + 3) 0) s (testsOf p per T s (take (4 * j) xs)) ≡ testsOf p per T s (take (4 * j + 4) xs)
+    unfolding testsOf groups
+    tests-next zero s l = refl
+    tests-next (suc T) s l =
+        (λ i. one s (omega (arith, suc-mul T per)) i ∷ tests-next T (drop per s) (omega (arith, suc-mul T per, length-drop per s)) i)
+
+-- ---- what the loop over the columns needs and gives, d being the results so far
+module _ (p per : ℕ) (s xs d : List ℕ) where
+  pub columns-start : (d₀ : List ℕ) → d ≡ replicate (length d₀) 0 → d ≡ testsOf p per (length d) s (take (4 * 0) xs)
+  columns-start d₀ e =
+      e ∙ ap (λ (n : ℕ). replicate {A = ℕ} n 0) (sym (ap length e ∙ length-replicate {A = ℕ} (length d₀) 0)) ∙ sym (tests-none p per (length d) s xs)
+
+  pub columns-below : (j T : ℕ) → 0 < p → d ≡ testsOf p per T s (take (4 * j) xs) → Below p d
+  columns-below j T h e = rw e (tests-below p h per T s (take (4 * j) xs))
+
+  pub columns-next : (j T : ℕ) → j < per → T * per ≤ length s → d ≡ testsOf p per T s (take (4 * j) xs)
+      → addColumn p per j (getD xs (4 * j) 0) (getD xs (4 * j + 1) 0) (getD xs (4 * j + 2) 0) (getD xs (4 * j + 3) 0) s d ≡ testsOf p per T s (take (4 * (j + 1)) xs)
+  columns-next j T h l e =
+      let f : 4 * j + 4 ≡ 4 * (j + 1) = omega arith in
+      rw e (tests-next p per j xs h T s l ∙ ap (λ (n : ℕ). testsOf p per T s (take n xs)) f)
+
+  pub columns-end : (j T : ℕ) → per ≤ j → length xs ≤ 4 * per → d ≡ testsOf p per T s (take (4 * j) xs) → d ≡ testsOf p per T s xs
+  columns-end j T h l e =
+      let f : length xs ≤ 4 * j = omega arith in
+      e ∙ ap (testsOf p per T s) (take-all (4 * j) xs f)
+
+-- a row as long as another has the same room
+pub same-room : (n m per k : ℕ) → n ≡ m → m * per ≤ k → n * per ≤ k
+same-room n m per k e h = rw e h

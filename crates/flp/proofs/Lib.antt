@@ -1,8 +1,10 @@
 -- The laws of the definitions, over any modulus: `Bits`, `Tests`, `Gradient`, `Circuits` and `Readings` of the pieces, `Encoded` and `Valid` of an accepted encoding, `Sense` of names,
--- `Examples` and `Compared` of worked rows; and what the proofs of the functions cite (`Columns`).
+-- `Examples` and `Compared` of worked rows; and what the proofs of the functions cite (`Tables`, `Columns`, `Alone`).
 pub mod Bits
 pub mod Tests
+pub mod Tables
 pub mod Columns
+pub mod Alone
 pub mod Gradient
 pub mod Circuits
 pub mod Readings
