@@ -2,6 +2,8 @@
 // validity circuits and the parts of the vector that they read.
 use rules::Answer;
 
+mod checks;
+
 // What a circuit answers: its value and how many gadget calls it made, both 0 beside a refusal.
 #[repr(C)]
 pub struct Circuit {

@@ -5,8 +5,8 @@ use record::Lengths;
 use record::Pine;
 use rules::Answer;
 
-mod record;
-mod rows;
+pub mod record;
+pub mod rows;
 
 ghost use mathlib.Core.Path.{_≡_};
 ghost use Rattle.rules.specs.Rules.{refuse, outOf};
