@@ -1,4 +1,4 @@
--- Which doubles are usable as coordinates, by the tests of `usable` and `normal_size`, and what their product by the scale is. Assumes nothing.
+-- Which doubles are usable as coordinates, by the tests of `usable`, `size` and `normal_size`, and what their product by the scale is. Assumes nothing.
 use mathlib.Core.Path.{_≡_, refl, sym, ap, _∙_, subst}
 use mathlib.Core.Bool.{Bool, true, false, not, _&&_, _||_, Bool·beq, cond, true≢false, false≢true}
 use Prim.Native.Nat.{ℕ, zero, suc, _+_, _*_, _^_, _<_}
@@ -10,8 +10,8 @@ use lib.Ieee.{Float, nan, inf, fin, Format, binary64, prec, emax, low, up, down,
 use lib.Ieee.Bits.{is-true}
 use lib.Ieee.Fits.{up-pos, and-l, round-is}
 use Rattle.field64.specs.Field.{p64}
-use Rattle.doubles.specs.Doubles.{unusable, element, floorOf, power}
-use Rattle.doubles.specs.Steps.{normalSize, floorMod}
+use Rattle.doubles.specs.Doubles.{unusable, element, power}
+use Rattle.doubles.specs.Steps.{sizeOf, normalSize, floorMod}
 use Rattle.doubles.proofs.Laws.{mul-power, floor-of-product}
 
 abbrev usable : Float → Bool
@@ -55,7 +55,7 @@ normal-is s m e =
     ∙ ap (λ (x : ℕ). not (ltb (suc m * up e * 2 ^ 1022) x)) (one-mul (down e))
     ∙ ap (λ (b : Bool). not (b && ltb (suc m * up e * 2 ^ 1022) (down e))) (sym (is-true (ltb 0 (suc m)) (lt→ltb 0 (suc m) (zero-lt-suc m))))
 
-pub usable-zero : (x : Float) → eq x (fin false 0 (pos 0)) ≡ true → true ≡ usable x
+usable-zero : (x : Float) → eq x (fin false 0 (pos 0)) ≡ true → true ≡ usable x
 unfolding eq unusable
 usable-zero nan h = absurd (false≢true h)
 usable-zero (inf s) h = absurd (false≢true h)
@@ -79,7 +79,7 @@ negative-below m e = is-true (ltb 0 (suc m * up e * 1 + 0 * 1 * down e)) (lt→l
     more : (a b : ℕ) → 0 < a → 0 < a + b
     more a b h = omega arith
 
-pub usable-negative : (x : Float) → lt x (fin false 0 (pos 0)) ≡ true → normalSize (neg x) ≡ usable x
+usable-negative : (x : Float) → lt x (fin false 0 (pos 0)) ≡ true → normalSize (neg x) ≡ usable x
 unfolding neg
 usable-negative nan h = absurd (false≢true (unfold lt in h))
 usable-negative (inf true) h = unfold normalSize unusable lt in refl
@@ -88,13 +88,34 @@ usable-negative (fin true zero e) h = clash (lt (fin true zero e) (fin false 0 (
 usable-negative (fin true (suc m) e) h = normal-is true m e
 usable-negative (fin false m e) h = absurd (below-zero m e h)
 
-pub usable-positive : (x : Float) → eq x (fin false 0 (pos 0)) ≡ false → lt x (fin false 0 (pos 0)) ≡ false → normalSize x ≡ usable x
+usable-positive : (x : Float) → eq x (fin false 0 (pos 0)) ≡ false → lt x (fin false 0 (pos 0)) ≡ false → normalSize x ≡ usable x
 usable-positive nan z h = unfold normalSize unusable lt in refl
 usable-positive (inf true) z h = absurd (true≢false (unfold lt in h))
 usable-positive (inf false) z h = unfold normalSize unusable lt in refl
 usable-positive (fin s zero e) z h = clash (eq (fin s zero e) (fin false 0 (pos 0))) (eq-is-zero s e) z
 usable-positive (fin true (suc m) e) z h = clash (lt (fin true (suc m) e) (fin false 0 (pos 0))) (negative-below m e) h
 usable-positive (fin false (suc m) e) z h = normal-is false m e
+
+-- by its size
+by-size : (x : Float) (t z : Bool) → lt x (fin false 0 (pos 0)) ≡ t → eq x (fin false 0 (pos 0)) ≡ z → z ≡ false → normalSize (cond t (neg x) x) ≡ usable x
+by-size x true z h e f = usable-negative x h
+by-size x false z h e f = usable-positive x (e ∙ f) h
+
+pub usable-normal : (x : Float) → normalSize (sizeOf x) ≡ true → true ≡ usable x
+unfolding sizeOf
+usable-normal x h = go (eq x (fin false 0 (pos 0))) refl
+  where
+    go : (z : Bool) → eq x (fin false 0 (pos 0)) ≡ z → true ≡ usable x
+    go true e = usable-zero x e
+    go false e = sym h ∙ by-size x (lt x (fin false 0 (pos 0))) false refl e refl
+
+pub usable-other : (x : Float) → normalSize (sizeOf x) ≡ false → eq x (fin false 0 (pos 0)) ≡ usable x
+unfolding sizeOf
+usable-other x h = go (eq x (fin false 0 (pos 0))) refl
+  where
+    go : (z : Bool) → eq x (fin false 0 (pos 0)) ≡ z → z ≡ usable x
+    go true e = usable-zero x e
+    go false e = sym h ∙ by-size x (lt x (fin false 0 (pos 0))) false refl e refl
 
 -- ---- the product by the scale is a number, and its floor the element's
 odd-number : (d : ℕ) (s : Bool) (q k l : ℕ) → T (not (isNan (odd d s q k l)))

@@ -1,4 +1,4 @@
--- What the tests of `floor_to_field` on a double say of its floor. Assumes nothing.
+-- What the tests of `far_floor` on a double say of its floor. Assumes nothing.
 use mathlib.Core.Path.{_≡_, refl, sym, ap, _∙_, subst}
 use mathlib.Core.Bool.{Bool, true, false, not, true≢false, false≢true}
 use Prim.Native.Nat.{ℕ, zero, suc, _+_, _-_, _*_, _/_, _%_, _^_, _≤_, _<_, min}
@@ -19,19 +19,19 @@ use Rattle.doubles.proofs.Laws.{held, floor-clamped}
 use Rattle.doubles.proofs.Accept.{clash}
 
 -- ---- tests
-yes : {b : Bool} → b ≡ true → T b
+pub yes : {b : Bool} → b ≡ true → T b
 yes h = subst T (sym h) tt
 
-no : {b : Bool} → b ≡ false → T (not b)
+pub no : {b : Bool} → b ≡ false → T (not b)
 no h = subst (λ (x : Bool). T (not x)) (sym h) tt
 
-alike : (x y : Bool) → (T x → T y) → (T y → T x) → x ≡ y
+pub alike : (x y : Bool) → (T x → T y) → (T y → T x) → x ≡ y
 alike true true f g = refl
 alike true false f g = absurd (f tt)
 alike false true f g = absurd (g tt)
 alike false false f g = refl
 
-ltb-scale : (a b k : ℕ) → 0 < k → ltb (a * k) (b * k) ≡ ltb a b
+pub ltb-scale : (a b k : ℕ) → 0 < k → ltb (a * k) (b * k) ≡ ltb a b
 ltb-scale a b k K =
     alike (ltb (a * k) (b * k)) (ltb a b)
     (λ t. lt→ltb a b (lt-of-mul-lt-mul-right k (ltb→lt (a * k) (b * k) t)))
@@ -141,7 +141,7 @@ negated-above-minus-one (fin true m e) h = unfold lt in lt→ltb 0 (1 * 1 * down
 negated-above-minus-one (fin false m e) h = absurd (not-below m e h)
 
 -- the floor of -a / c, by a - 1
-floor-negative : (a c : ℕ) → 0 < a → modP p64 (clamp (floorDiv (negℤ (pos a)) c)) ≡ p64 - 1 - min ((a - 1) / c) (2 ^ 64 - 2) % p64
+pub floor-negative : (a c : ℕ) → 0 < a → modP p64 (clamp (floorDiv (negℤ (pos a)) c)) ≡ p64 - 1 - min ((a - 1) / c) (2 ^ 64 - 2) % p64
 unfolding floorDiv clamp modP
 floor-negative zero c h = absurd (lt-irrefl 0 h)
 floor-negative (suc a) c h = ap (λ (x : ℕ). p64 - 1 - min (x / c) (2 ^ 64 - 2) % p64) (back a)
@@ -189,7 +189,7 @@ none-left a c (suc t) A C h e = (
     fewer : (x c a : ℕ) → 0 < c → x + c ≤ a → x ≤ a - 1
     fewer x c a C h = omega arith
 
-uncapped : (n k : ℕ) → n ≤ k → min n k ≡ n
+pub uncapped : (n k : ℕ) → n ≤ k → min n k ≡ n
 uncapped n k h = omega arith
 
 -- the whole part of a double below 2 ^ 64

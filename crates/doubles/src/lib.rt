@@ -3,19 +3,25 @@
 // over rows: they take the ready scale, 2^frac_bits, which a row's caller makes once.
 use rules::Answer;
 ghost use mathlib.Core.Path.{_≡_};
-ghost use mathlib.Core.Bool.{false, not};
+ghost use mathlib.Core.Bool.{true, false, not};
 ghost use Prim.Native.Nat.{_-_, _%_, _≤_, _<_};
 ghost use lib.Dec.{T};
-ghost use lib.Ieee.{isNan};
+ghost use lib.IntN.{pos};
+ghost use lib.Ieee.{fin, lt, isNan};
 ghost use Rattle.field64.specs.Field.{p64};
 ghost use Rattle.doubles.specs.Doubles.{fracBitsRule, power, unusable, element, encoded, coordinateOf, decoded, decodedOf};
-ghost use Rattle.doubles.specs.Steps.{floorMod, normalSize};
+ghost use Rattle.doubles.specs.Steps.{floorMod, sizeOf, normalSize};
 
 // The largest frac_bits.
 const MAX_FRAC_BITS: u64 = 30;
 
 // (p - 1) / 2.
 const HALF: u64 = 0x7fff_ffff_8000_0000;
+
+// 3 * 2^51, and its bit pattern.
+const MIDDLE: f64 = 6755399441055744.0;
+
+const MIDDLE_BITS: u64 = 0x4338_0000_0000_0000;
 
 // An element, which is 0 beside a refusal.
 #[repr(C)]
@@ -76,23 +82,39 @@ fn normal_size(a: f64) -> bool
     }
 }
 
-// Whether x is zero, or normal.
+// The size of x; a zero or a NaN stays as it is.
+fn size(x: f64) -> f64
+    ensures { λ r. ⌜ r ≡ sizeOf x ⌝ }
+{
+    if x < 0.0 { -x } else { x }
+}
+
+// Whether x is zero, or normal. In this order no branch on the sign is left in the machine code.
 pub fn usable(x: f64) -> bool
     ensures { λ r. ⌜ r ≡ not (unusable x) ⌝ }
 {
-    if x == 0.0 {
+    if normal_size(size(x)) {
         return true;
     }
-    if x < 0.0 {
-        normal_size(-x)
-    } else {
-        normal_size(x)
-    }
+    x == 0.0
+}
+
+// The floor of w, modulo p. From 2^52 to 2^53 the doubles are the whole numbers, and their bit
+// patterns count on with them. So w + MIDDLE is the floor of w and MIDDLE, or one more; taking MIDDLE
+// off again is exact, and shows which.
+fn near_floor(w: f64) -> u64
+    requires { ⌜ T (lt (fin true 1 (pos 50)) w) ⌝ ∗ ⌜ T (lt w (fin false 1 (pos 50))) ⌝ }
+    ensures { λ r. ⌜ r ≡ floorMod w ⌝ }
+{
+    let y = w + MIDDLE;
+    let bits = f64::to_bits(y);
+    let floor = if w < y - MIDDLE { bits - 1 } else { bits };
+    field64::sub(floor, MIDDLE_BITS)
 }
 
 // The floor of w, clamped to 2^64 - 1 either way, modulo p. Below zero, the size of the floor is
 // the whole part of -w, and one more where that leaves something of -w.
-fn floor_to_field(w: f64) -> u64
+fn far_floor(w: f64) -> u64
     requires { ⌜ T (not (isNan w)) ⌝ }
     ensures { λ r. ⌜ r ≡ floorMod w ⌝ }
 {
@@ -113,6 +135,19 @@ fn floor_to_field(w: f64) -> u64
     } else {
         reduced(0xffff_ffff_ffff_ffff)
     }
+}
+
+// The same: below 2^50 in size, as coordinates are, with no branch on the sign or the exponent.
+fn floor_to_field(w: f64) -> u64
+    requires { ⌜ T (not (isNan w)) ⌝ }
+    ensures { λ r. ⌜ r ≡ floorMod w ⌝ }
+{
+    if -1125899906842624.0 < w {
+        if w < 1125899906842624.0 {
+            return near_floor(w);
+        }
+    }
+    far_floor(w)
 }
 
 // The element of a usable x at the scale 2^frac_bits.
@@ -144,16 +179,19 @@ pub fn encode(x: f64, scale: f64, frac_bits: u64) -> Coordinate
     }
 }
 
-// The double of y at the scale 2^frac_bits.
+// The double of y at the scale 2^frac_bits. The sign is the divisor's, and the top bit of HALF - y is
+// its index: in this form no branch is left in the machine code.
 pub fn decode(y: u64, scale: f64, frac_bits: u64) -> f64
     requires { ⌜ y < p64 ⌝ ∗ ⌜ scale ≡ power «frac_bits» ⌝ }
     ensures { λ r. ⌜ r ≡ decoded p64 y «frac_bits» ⌝ }
 {
+    let divisors = [scale, -scale];
+    let sign = (std::num::wrapping_sub_u64(HALF, y) >> 63) as usize;
+    let mut size = y;
     if HALF < y {
-        -std::num::nearest_u64_to_f64(field64::P - y) / scale
-    } else {
-        std::num::nearest_u64_to_f64(y) / scale
+        size = field64::P - y;
     }
+    std::num::nearest_u64_to_f64(size) / divisors[sign]
 }
 
 // The double x as a field number.

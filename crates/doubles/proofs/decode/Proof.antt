@@ -1,42 +1,47 @@
 -- `doubles::decode` meets its contract: the two ways of `centred`. Assumes nothing.
-use borrow.Author.Needs.{needs}
-use borrow.Author.Tests.{lt-ltb, le-ltb}
-use mathlib.Core.Path.{sym, _∙_, ap}
-use mathlib.Core.Bool.{Bool, cond}
-use Prim.Native.Nat.{_-_, _/_}
-use lib.IntN.{pos}
-use lib.Ieee.{Float, binary64, neg, div, ofInt}
+use mathlib.Core.Logic.{⊎-elim}
+use Prim.Native.Nat.{_/_}
+use native.Mathlib.Omega.{arith}
 use Rattle.field64.specs.Field.{p64}
-use Rattle.doubles.specs.Doubles.{power, centred, decoded}
+use Rattle.doubles.proofs.Centred.{decoded-negative, decoded-positive}
+use borrow.Author.Needs.{needs}
 use Rattle.doubles.proofs.decode.Statement.{statement}
 use Rattle.doubles.proofs.decode.Tie as tie
 
-sub-nearest-u64-to-f64 : tie.Need-sub-nearest-u64-to-f64
-sub-nearest-u64-to-f64 c = search needs
+wrapping-sub-u64-requires : tie.Need-wrapping-sub-u64-requires
+wrapping-sub-u64-requires c κs = search needs
+
+sub-size : tie.Need-sub-size
+sub-size c = search needs
 
 nearest-u64-to-f64-requires : tie.Need-nearest-u64-to-f64-requires
 nearest-u64-to-f64-requires c κs = search needs
 
-nearest-u64-to-f64-requires-2 : tie.Need-nearest-u64-to-f64-requires-2
-nearest-u64-to-f64-requires-2 c κs = search needs
+mul-result : tie.Need-mul-result
+mul-result c = search needs
+
+array-read-result : tie.Need-array-read-result
+array-read-result c = search needs
 
 returns : tie.Need-returns
-unfolding centred decoded
 returns c =
-    let s = c .before .before in
-    let y = s .args .y in
-    ap (λ (z : Float). div binary64 (neg z) (s .args .scale)) (c .nearest-u64-to-f64 .ensures)
-    ∙ ap (λ (z : Float). div binary64 (neg (ofInt binary64 (pos (p64 - y)))) z) (s .pre .1)
-    ∙ sym (ap (λ (b : Bool). div binary64 (cond b (neg (ofInt binary64 (pos (p64 - y)))) (ofInt binary64 (pos y))) (power (s .args .frac-bits))) (lt-ltb ((p64 - 1) / 2) y (c .before .if1 .taken)))
-
-returns-2 : tie.Need-returns-2
-unfolding centred decoded
-returns-2 c =
-    let s = c .before .before in
-    let y = s .args .y in
-    ap (λ (z : Float). div binary64 z (s .args .scale)) (c .nearest-u64-to-f642 .ensures)
-    ∙ ap (λ (z : Float). div binary64 (ofInt binary64 (pos y)) z) (s .pre .1)
-    ∙ sym (ap (λ (b : Bool). div binary64 (cond b (neg (ofInt binary64 (pos (p64 - y)))) (ofInt binary64 (pos y))) (power (s .args .frac-bits))) (le-ltb ((p64 - 1) / 2) y (c .before .if1 .left)))
+    let j = c .before in
+    let w = j .before in
+    let s = w .before in
+    let x = c .nearest-u64-to-f64 in
+    let sign = w .wrapping-sub-u64 .result / 9223372036854775808 in
+    ⊎-elim
+    (λ k. decoded-negative p64 (s .args .y) (s .args .frac-bits) (s .args .scale) (x .result) (j .if1 .size) sign (s .pre .1) (x .ensures) (omega arith) (k .1) (omega (arith, w .wrapping-sub-u64 .ensures)))
+    (λ k. decoded-positive p64 (s .args .y) (s .args .frac-bits) (s .args .scale) (x .result) (j .if1 .size) sign (s .pre .1) (x .ensures) (omega arith) (k .1) (omega (arith, w .wrapping-sub-u64 .ensures)))
+    (j .if1 .came)
 
 pub decode-spec : {M : Type 1} → statement M
-decode-spec = tie.close (tie.spec sub-nearest-u64-to-f64 nearest-u64-to-f64-requires nearest-u64-to-f64-requires-2 returns returns-2)
+decode-spec =
+    tie.close
+    (tie.spec
+    wrapping-sub-u64-requires
+    sub-size
+    nearest-u64-to-f64-requires
+    mul-result
+    array-read-result
+    returns)

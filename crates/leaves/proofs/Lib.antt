@@ -1,0 +1,2 @@
+-- Laws of the definitions over rows.
+pub mod Turns

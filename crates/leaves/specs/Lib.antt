@@ -1,0 +1,2 @@
+-- What the loops of `leaves` give, as recursions on rows.
+pub mod Leaves

@@ -1,0 +1,47 @@
+//! The bound of the wraparound tests, for every norm bound that document 01 allows: is the rounded form of the
+//! Rust the same as the whole-number form?  `Pine::new` multiplies by 8.7 as a double; document 01 says "the
+//! smallest power of two not below ceil(87n / 10) + 1" and "binary digits of 2b - 1".
+//!
+//! Prints one line, and fails if a bound or its number of digits (the width) differs anywhere.
+
+use std::process::ExitCode;
+
+const ALPHA: f64 = 8.7;
+const LAST: u64 = 3037000499;
+
+/// As `bits` in the Rust.
+fn bits(x: u64) -> u32 {
+    if x == 0 {
+        return 1;
+    }
+    x.ilog2() + 1
+}
+
+fn main() -> ExitCode {
+    // The smallest power of two not below the present n's ceil(87n / 10) + 1, which never falls as n grows.
+    let (mut bound, mut log) = (1_u64, 0_u32);
+    let (mut checked, mut bounds, mut widths, mut ceilings) = (0_u64, 0_u64, 0_u64, 0_u64);
+    let mut first = None;
+    for n in 1..=LAST {
+        let rounded = (n as f64 * ALPHA).ceil() as u64;
+        let whole = (87 * n).div_ceil(10);
+        while bound < whole + 1 {
+            bound *= 2;
+            log += 1;
+        }
+        let test_bound = (rounded + 1).next_power_of_two();
+        bounds += u64::from(test_bound != bound);
+        widths += u64::from(bits(2 * test_bound - 1) != log + 1);
+        checked += 1;
+        if rounded != whole {
+            ceilings += 1;
+            first = first.or(Some((n, rounded, whole)));
+        }
+    }
+    print!("n from 1 to {LAST}, {checked} checked: {bounds} bounds differ, {widths} widths differ, {ceilings} ceilings differ");
+    match first {
+        None => println!(),
+        Some((n, rounded, whole)) => println!(", first at n = {n}: {rounded} in the Rust, {whole} in whole numbers"),
+    }
+    ExitCode::from(u8::from(bounds + widths > 0))
+}
