@@ -11,5 +11,8 @@ pub mod Readings
 pub mod Encoded
 pub mod Valid
 pub mod Sense
+pub mod Chunks
+pub mod Turns
+pub mod TestTurns
 mod Examples
 mod Compared

@@ -4,6 +4,7 @@ use pine::PineParam;
 use pine::record::Pine;
 use rules::Answer;
 
+mod checks;
 mod wr_tests;
 
 ghost use mathlib.Core.Path.{_≡_};
