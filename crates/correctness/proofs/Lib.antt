@@ -1,1 +1,6 @@
 mod Table
+mod Centred
+pub mod Tally
+pub mod Report
+pub mod Aggregation
+mod Examples

@@ -1,1 +1,4 @@
 pub mod Table
+pub mod Tally
+pub mod Report
+pub mod Aggregation

@@ -12,7 +12,7 @@ use Rattle.pine.specs.Param.{Field, paramAnswer}
 use Rattle.pine.specs.Rows.{rowRule, elementsFrom, elementsRule, Below, addRows}
 use Rattle.pine.specs.Outcome.{Outcome, outcome}
 use Rattle.pine.proofs.Limits.{param-accepted}
-use Rattle.pine.proofs.Lengths.{right-length, length-is}
+use Rattle.pine.proofs.Lengths.{right-row, row-right}
 use Rattle.pine.proofs.Elements.{below-append, below-parts, elements-joined, right-elements, elements-below}
 use Rattle.vdaf.specs.Aggregates.{emptyRules, emptyAnswer, emptyOf, accumulateRules, accumulateAnswer, accumulateOf, UnshardOutcome, unshardOutcome, decodedSums, unshardRules, unshardAnswer, unshardOf}
 
@@ -32,11 +32,11 @@ module _ (F : Field) (i : PineParam) where
     unfolding emptyAnswer
     emptied h =
         let r = passed (emptyRules F i row) h in
-        (param-accepted F i (r .0), length-is 1 (length row) (i .dimension) (r .1 .0))
+        (param-accepted F i (r .0), row-right 1 (length row) (i .dimension) (r .1 .0))
 
     pub empties : paramAnswer F i ≡ accepted → length row ≡ i .dimension → emptyOf F i row ≡ outcome accepted (replicate (i .dimension) 0)
     unfolding emptyOf emptyAnswer
-    empties e l = rw (e, right-length 1 (length row) (i .dimension) l)
+    empties e l = rw (e, right-row 1 (length row) (i .dimension) l)
 
   -- ---- adding
 
@@ -48,8 +48,8 @@ module _ (F : Field) (i : PineParam) where
         let b = below-parts (F .p) agg share (elements-below (F .p) 0 (agg ++ share) (r .1 .1 .1 .0)) in
         record {
           param = param-accepted F i (r .0);
-          left-long = length-is 1 (length agg) (i .dimension) (r .1 .0);
-          right-long = length-is 2 (length share) (i .dimension) (r .1 .1 .0);
+          left-long = row-right 1 (length agg) (i .dimension) (r .1 .0);
+          right-long = row-right 2 (length share) (i .dimension) (r .1 .1 .0);
           left-below = b .0;
           right-below = b .1;
         }
@@ -57,7 +57,7 @@ module _ (F : Field) (i : PineParam) where
     pub adds : TwoRows F i agg share → accumulateOf F i agg share ≡ outcome accepted (addRows (F .p) agg share)
     unfolding accumulateOf accumulateAnswer
     adds t =
-        rw (t .param, right-length 1 (length agg) (i .dimension) (t .left-long), right-length 2 (length share) (i .dimension) (t .right-long), right-elements (F .p) 0 (agg ++ share) (below-append (F .p) agg share (t .left-below) (t .right-below)))
+        rw (t .param, right-row 1 (length agg) (i .dimension) (t .left-long), right-row 2 (length share) (i .dimension) (t .right-long), right-elements (F .p) 0 (agg ++ share) (below-append (F .p) agg share (t .left-below) (t .right-below)))
 
   -- ---- unsharding
 
@@ -69,18 +69,18 @@ module _ (F : Field) (i : PineParam) where
         let b = below-parts (F .p) left right (elements-below (F .p) 0 (left ++ right) (r .1 .1 .1 .1 .0)) in (
           record {
             param = param-accepted F i (r .0);
-            left-long = length-is 1 (length left) (i .dimension) (r .1 .0);
-            right-long = length-is 2 (length right) (i .dimension) (r .1 .1 .0);
+            left-long = row-right 1 (length left) (i .dimension) (r .1 .0);
+            right-long = row-right 2 (length right) (i .dimension) (r .1 .1 .0);
             left-below = b .0;
             right-below = b .1;
           },
-          length-is 3 (length row) (i .dimension) (r .1 .1 .1 .0),
+          row-right 3 (length row) (i .dimension) (r .1 .1 .1 .0),
         )
 
     pub unshards : TwoRows F i left right → length row ≡ i .dimension → unshardOf F i left right row ≡ unshardOutcome accepted (decodedSums (F .p) (i .«frac_bits») left right)
     unfolding unshardOf unshardAnswer
     unshards t l =
-        rw (t .param, right-length 1 (length left) (i .dimension) (t .left-long), right-length 2 (length right) (i .dimension) (t .right-long), right-length 3 (length row) (i .dimension) l, right-elements (F .p) 0 (left ++ right) (below-append (F .p) left right (t .left-below) (t .right-below)))
+        rw (t .param, right-row 1 (length left) (i .dimension) (t .left-long), right-row 2 (length right) (i .dimension) (t .right-long), right-row 3 (length row) (i .dimension) l, right-elements (F .p) 0 (left ++ right) (below-append (F .p) left right (t .left-below) (t .right-below)))
 
   -- ---- what an answer does not turn on
 

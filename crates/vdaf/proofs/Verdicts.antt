@@ -11,7 +11,7 @@ use Rattle.rules.proofs.Chain.{refuse-last, first-assoc, first-passed}
 use Rattle.pine.specs.declared.PineParam.{PineParam}
 use Rattle.pine.specs.Param.{Field, paramAnswer}
 use Rattle.pine.specs.Rows.{rowRule, firstBad, elementsFrom, elementsRule}
-use Rattle.pine.proofs.Lengths.{length-last}
+use Rattle.pine.proofs.Lengths.{row-last}
 use Rattle.pine.proofs.Elements.{elements-joined}
 use Rattle.vdaf.specs.Aggregates.{emptyAnswer, accumulateAnswer, unshardAnswer}
 
@@ -40,7 +40,7 @@ module _ (F : Field) (i : PineParam) where
 
   pub empty-verdict : (row : List ℕ) (a b r : Answer) → a ≡ paramAnswer F i → b ≡ row-rule 1 row → r ≡ first a b → r ≡ emptyAnswer F i row
   unfolding emptyAnswer
-  empty-verdict row a b r e f g = g ∙ rw (e, f) (ap (first (paramAnswer F i)) (sym (length-last 1 (length row) (i .dimension))))
+  empty-verdict row a b r e f g = g ∙ rw (e, f) (ap (first (paramAnswer F i)) (sym (row-last 1 (length row) (i .dimension))))
 
   pub accumulate-verdict : (agg share : List ℕ) (a r : Answer) → a ≡ lens agg share → r ≡ first a (elementsRule (F .p) (agg ++ share)) → r ≡ accumulateAnswer F i agg share
   unfolding accumulateAnswer
