@@ -12,6 +12,7 @@ use std::{hint::black_box, time::Instant};
 extern "C" {
     fn leaves_products(a: *mut u64, an: usize, b: *const u64, bn: usize) -> u64;
     fn leaves_chain(x: u64, row: *const u64, n: usize) -> u64;
+    fn leaves_running_sum_of_products(a: *const u64, an: usize, b: *const u64, bn: usize) -> u64;
     fn leaves_sum_of_products(a: *const u64, an: usize, b: *const u64, bn: usize) -> u64;
     fn leaves_sums(a: *mut u64, an: usize, b: *const u64, bn: usize) -> u64;
     fn leaves_elements(xs: *const f64, xn: usize, f: u64, out: *mut u64, on: usize) -> u64;
@@ -202,10 +203,16 @@ fn table() -> Vec<Row> {
             ("by hand", |s| to_one(s, |a, b| by_hand::chain(a[0], b))),
             ("ours", |s| to_one(s, |a, b| unsafe { leaves_chain(a[0], b.as_ptr(), b.len()) })),
         ]));
-        rows.push(row("sum of products", n, pair, vec![
+        rows.push(row("running sum of products", n, pair, vec![
             ("original", |s| to_one_original(s, |a, b| a.iter().zip(b).fold(Field64::zero(), |t, (x, y)| t + *x * *y))),
             ("by hand", |s| to_one(s, by_hand::sum_of_products)),
-            ("by hand, lazy", |s| to_one(s, by_hand::sum_of_products_lazy)),
+            ("ours", |s| to_one(s, |a, b| unsafe {
+                leaves_running_sum_of_products(a.as_ptr(), a.len(), b.as_ptr(), b.len())
+            })),
+        ]));
+        rows.push(row("the same, reduced once", n, pair, vec![
+            ("original, as above", |s| to_one_original(s, |a, b| a.iter().zip(b).fold(Field64::zero(), |t, (x, y)| t + *x * *y))),
+            ("by hand", |s| to_one(s, by_hand::sum_of_products_lazy)),
             ("ours", |s| to_one(s, |a, b| unsafe {
                 leaves_sum_of_products(a.as_ptr(), a.len(), b.as_ptr(), b.len())
             })),
