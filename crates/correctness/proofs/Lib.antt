@@ -4,3 +4,4 @@ pub mod Tally
 pub mod Report
 pub mod Aggregation
 mod Examples
+mod Correctness

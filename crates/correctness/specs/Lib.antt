@@ -2,3 +2,4 @@ pub mod Table
 pub mod Tally
 pub mod Report
 pub mod Aggregation
+pub mod Correctness
