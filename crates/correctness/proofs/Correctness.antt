@@ -30,7 +30,8 @@ use Rattle.vdaf.specs.Aggregates.{decodedSums}
 use Rattle.vdaf.proofs.Accepted.{TwoRows, unshards}
 use Rattle.vdaf.proofs.Decoded.{length-decodedSums, getD-decodedSums}
 use Rattle.correctness.specs.Tally.{Aggregates, run, FieldRow, Each, Tallied}
-use Rattle.correctness.specs.Report.{Cut, shares, StandsFor, centredNumber, sumℤ, numbersSum}
+use Rattle.correctness.proofs.Cut.{Cut, shares, StandsFor, centredNumber, numbersSum}
+use Rattle.correctness.specs.Correctness.{sumℤ}
 use Rattle.correctness.specs.Correctness as C
 use Rattle.correctness.specs.Correctness.{nearestOver, Correctness}
 use Rattle.correctness.proofs.Aggregation.{aggregation}

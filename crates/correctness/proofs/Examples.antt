@@ -19,7 +19,8 @@ use Rattle.pine.specs.Param.{Field64, paramRules, paramAnswer}
 use Rattle.pine.specs.Rows.{addRows, elementsRule}
 use Rattle.vdaf.specs.Aggregates.{emptyAnswer, emptyOf, accumulateAnswer, accumulateOf, unshardOf}
 use Rattle.correctness.specs.Tally.{Call, Aggregates, step, run, Begun, FieldRow}
-use Rattle.correctness.specs.Report.{Cut, centredNumber, sumℤ}
+use Rattle.correctness.proofs.Cut.{Cut, centredNumber}
+use Rattle.correctness.specs.Correctness.{sumℤ}
 use Rattle.correctness.proofs.Aggregation.{aggregation}
 
 abbrev with-dimension : ℕ → PineParam

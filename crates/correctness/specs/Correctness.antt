@@ -3,7 +3,7 @@ use Prim.Native.Nat.{ℕ, _-_, _/_, _^_, _<_, _≤_}
 use mathlib.Core.Path.{_≡_}
 use mathlib.Core.List.{List, [], _∷_, _++_, map, Perm}
 use lib.ListN.{length, getD, take, replicate}
-use lib.IntN.{ℤ, pos, natAbs}
+use lib.IntN.{ℤ, pos, natAbs, _+ℤ_}
 use lib.Ieee.{Float, binary64, ofInt, div}
 use Rattle.rules.specs.Rules.{accepted}
 use Rattle.doubles.specs.Doubles.{floorOf, power, plusZero}
@@ -18,7 +18,11 @@ use Rattle.flp.specs.Encode.{encodeOf, encodeOutcome}
 use Rattle.flp.specs.Circuits.{validOf, validEqualOf}
 use Rattle.vdaf.specs.Aggregates.{emptyOf, accumulateOf, UnshardOutcome, unshardOf}
 use Rattle.correctness.specs.Tally.{Call, Aggregates, run, Begun, FieldRow, Each, Tallied}
-use Rattle.correctness.specs.Report.{sumℤ}
+
+-- the sum of whole numbers
+unfoldable pub sumℤ : List ℤ → ℤ
+sumℤ [] = pos 0
+sumℤ (z ∷ zs) = z +ℤ sumℤ zs
 
 -- accepted, with the value 0 and n gadget calls
 abbrev pub zeroWith : (n : ℕ) → Circuit
