@@ -3,3 +3,4 @@ pub mod Bits
 pub mod Tests
 pub mod Encode
 pub mod Circuits
+pub mod OnParts
