@@ -11,8 +11,11 @@ pub mod Readings
 pub mod Encoded
 pub mod Valid
 pub mod Sense
+-- what the circuits' functions cite
 pub mod Chunks
 pub mod Turns
 pub mod TestTurns
+pub mod Verdicts
+pub mod Cut
 mod Examples
 mod Compared

@@ -4,3 +4,4 @@ pub mod Tests
 pub mod Columns
 pub mod Encode
 pub mod Circuits
+pub mod OnParts

@@ -5,6 +5,8 @@ use pine::record::Pine;
 use rules::Answer;
 
 mod checks;
+pub mod parts;
+pub mod validity;
 mod wr_tests;
 
 ghost use mathlib.Core.Path.{_≡_};
