@@ -6,7 +6,10 @@ mod by_hand;
 
 use pine_oracle::pine::{f64_to_field_row, sum_of_decoded};
 use prio_draft09::field::{Field64, FieldElement};
-use std::{hint::black_box, time::Instant};
+use std::{
+    hint::black_box,
+    time::{Instant, SystemTime},
+};
 
 #[link(name = "leaves", kind = "static")]
 extern "C" {
@@ -268,7 +271,7 @@ fn table() -> Vec<Row> {
 fn main() {
     let only = std::env::args().nth(1).unwrap_or_default();
     let rows: Vec<Row> = table().into_iter().filter(|r| r.name.contains(&only)).collect();
-    let mut random = Random(Instant::now().elapsed().as_nanos() as u64 ^ std::process::id() as u64);
+    let mut random = Random(SystemTime::UNIX_EPOCH.elapsed().unwrap().as_nanos() as u64);
     println!("{:<27}{:>7}  {:<28}{:>8}  {:<15}  {:>6}", "row", "length", "way", "median", "quartiles", "/ ours");
     println!("{:<27}{:>7}  {:<28}{:>8}  {:<15}", "", "", "", "ns an element", "");
     for row in rows {
