@@ -1,14 +1,15 @@
--- The definitions of `specs/Doubles.antt` are what they are called: the floor is the one whole number with floor * c ≤ z < (floor + 1) * c, the remainder is below p64 and differs from z
--- by a multiple of p64, and the clamp leaves what lies between its ends. Assumes nothing.
+-- The definitions of `specs/Doubles.antt` are what they are called: the floor is the one whole number with floor * c ≤ z < (floor + 1) * c, the remainder is below p, and for p64 differs from z
+-- by a multiple of it, and the clamp leaves what lies between its ends. Assumes nothing.
 use mathlib.Core.Path.{_≡_, refl, sym, ap}
 use Prim.Native.Nat.{ℕ, zero, suc, _+_, _-_, _*_, _/_, _%_, _^_, _≤_, _<_, min}
 use native.Mathlib.Nat.{le-of-eq, le-of-suc-le-suc, lt-of-lt-of-le, suc-mul, mod-lt, div-mul-le-self, lt-div-mul-add}
 use native.Mathlib.Omega.{arith}
 use lib.IntN.{ℤ, pos, negsuc, sucℤ, negℤ, _*ℤ_}
-use lib.Dec.{T, leb→le, le→leb, lt→ltb, lit<}
+use lib.Dec.{T, leb→le, le→leb, lt→ltb}
 use lib.Signed.{leZ, ltZ}
+use lib.Ieee.{Float}
 use Rattle.field64.specs.Field.{p64}
-use Rattle.doubles.specs.Doubles.{floorDiv, clamp, modP}
+use Rattle.doubles.specs.Doubles.{floorDiv, clamp, modP, floorOf, element}
 
 neg-le : (n a : ℕ) → a < n → T (leZ (negℤ (pos n)) (negsuc a))
 neg-le zero a h = absurd (no a h)
@@ -33,13 +34,17 @@ unfolding floorDiv
 floor-is (pos a) c C = (le→leb (a / c * c) a (div-mul-le-self a c), lt→ltb a (suc (a / c) * c) (past a c C))
 floor-is (negsuc a) c C = (neg-le (suc (a / c) * c) a (past a c C), next (a / c) a c (div-mul-le-self a c))
 
-pub modP-below : (z : ℤ) → modP p64 z < p64
+pub modP-below : (p : ℕ) → 0 < p → (z : ℤ) → modP p z < p
 unfolding modP
-modP-below (pos n) = mod-lt n (lit< tt)
-modP-below (negsuc n) = go n
+modP-below p h (pos n) = mod-lt n h
+modP-below p h (negsuc n) = go (n % p)
   where
-    go : (n : ℕ) → p64 - 1 - n % p64 < p64
-    go n = omega arith
+    go : (m : ℕ) → p - 1 - m < p
+    go m = omega arith
+
+pub element-below : (p : ℕ) → 0 < p → (x : Float) (f : ℕ) → element p x f < p
+unfolding element
+element-below p h x f = modP-below p h (clamp (floorOf x f))
 
 pub modP-positive : (n : ℕ) → modP p64 (pos n) ≡ n % p64
 unfolding modP

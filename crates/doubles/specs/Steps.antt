@@ -1,7 +1,6 @@
 -- What the inner functions of `doubles` give. Assumes nothing.
-use Prim.Native.Nat.{ℕ, _-_, _*_, _/_, _^_}
+use Prim.Native.Nat.{ℕ, _-_, _*_, _^_}
 use mathlib.Core.Bool.{Bool, false, not, _&&_, cond}
-use lib.Dec.{ltb}
 use lib.IntN.{pos, negsuc}
 use lib.Ieee.{Float, nan, inf, fin, up, down, neg, lt}
 use Rattle.field64.specs.Field.{p64}
@@ -20,7 +19,3 @@ sizeOf x = cond (lt x (fin false 0 (pos 0))) (neg x) x
 -- 2 ^ -1022 at least, and finite
 unfoldable pub normalSize : Float → Bool
 normalSize a = not (lt a (fin false 1 (negsuc 1021))) && lt a (inf false)
-
--- y stands for y - p
-abbrev pub upperHalf : ℕ → Bool
-upperHalf y = ltb ((p64 - 1) / 2) y

@@ -3,14 +3,14 @@
 // over rows: they take the ready scale, 2^frac_bits, which a row's caller makes once.
 use rules::Answer;
 ghost use mathlib.Core.Path.{_≡_};
-ghost use mathlib.Core.Bool.{true, false, not, cond};
+ghost use mathlib.Core.Bool.{true, false, not};
 ghost use Prim.Native.Nat.{_-_, _%_, _≤_, _<_};
 ghost use lib.Dec.{T};
 ghost use lib.IntN.{pos};
 ghost use lib.Ieee.{fin, lt, isNan};
 ghost use Rattle.field64.specs.Field.{p64};
 ghost use Rattle.doubles.specs.Doubles.{fracBitsRule, power, unusable, element, encoded, coordinateOf, decoded, decodedOf};
-ghost use Rattle.doubles.specs.Steps.{floorMod, sizeOf, normalSize, upperHalf};
+ghost use Rattle.doubles.specs.Steps.{floorMod, sizeOf, normalSize};
 
 // The largest frac_bits.
 const MAX_FRAC_BITS: u64 = 30;
@@ -179,31 +179,19 @@ pub fn encode(x: f64, scale: f64, frac_bits: u64) -> Coordinate
     }
 }
 
-// 1 where y stands for a negative number, y - p: where HALF - y wraps.
-fn sign(y: u64) -> usize
-    requires { ⌜ y < p64 ⌝ }
-    ensures { λ r. ⌜ r ≡ cond (upperHalf y) 1 0 ⌝ }
-{
-    (std::num::wrapping_sub_u64(HALF, y) >> 63) as usize
-}
-
-// The size of the number that y stands for.
-fn centred_size(y: u64) -> u64
-    requires { ⌜ y < p64 ⌝ }
-    ensures { λ r. ⌜ r ≡ cond (upperHalf y) (p64 - y) y ⌝ }
-{
-    if HALF < y { field64::P - y } else { y }
-}
-
-// The double of y at the scale 2^frac_bits. The sign comes from a table, at a computed place: a choice
-// between two doubles would be a branch in the machine code.
+// The double of y at the scale 2^frac_bits. The sign is the divisor's, and the top bit of HALF - y is
+// its index: in this form no branch is left in the machine code.
 pub fn decode(y: u64, scale: f64, frac_bits: u64) -> f64
     requires { ⌜ y < p64 ⌝ ∗ ⌜ scale ≡ power «frac_bits» ⌝ }
     ensures { λ r. ⌜ r ≡ decoded p64 y «frac_bits» ⌝ }
 {
-    let scales = [scale, -scale];
-    let at = sign(y);
-    std::num::nearest_u64_to_f64(centred_size(y)) / scales[at]
+    let divisors = [scale, -scale];
+    let sign = (std::num::wrapping_sub_u64(HALF, y) >> 63) as usize;
+    let mut size = y;
+    if HALF < y {
+        size = field64::P - y;
+    }
+    std::num::nearest_u64_to_f64(size) / divisors[sign]
 }
 
 // The double x as a field number.

@@ -1,3 +1,4 @@
 pub mod Param
 pub mod Record
 pub mod Rows
+pub mod Outcome

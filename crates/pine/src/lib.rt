@@ -5,7 +5,7 @@ use record::Lengths;
 use record::Pine;
 use rules::Answer;
 
-mod record;
+pub mod record;
 pub mod rows;
 
 ghost use mathlib.Core.Path.{_≡_};

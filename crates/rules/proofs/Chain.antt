@@ -16,6 +16,20 @@ refuse-last false n k = refl
 
 -- ---- chains
 
+pub first-refused : (a b : Answer) → (a .number ≡ 0 → ⊥) → first a b ≡ a
+first-refused a b h = rw (ne-eqb (a .number) 0 h)
+
+pub first-passed : (a b : Answer) → a .number ≡ 0 → first a b ≡ b
+first-passed a b h = rw (eq-eqb (a .number) 0 h)
+
+-- where a refuses, both sides are a, and where it does not, both are the rest
+pub first-assoc : (a b c : Answer) → first (first a b) c ≡ first a (first b c)
+first-assoc a b c = go (eqb (a .number) 0) refl
+  where
+    go : (t : Bool) → eqb (a .number) 0 ≡ t → first (cond t b a) c ≡ cond t (first b c) a
+    go true e = refl
+    go false e = rw e
+
 pub both : (a b : Answer) → first a b .number ≡ 0 → (a .number ≡ 0) × (b .number ≡ 0)
 both a b h = go (eqb (a .number) 0) refl h
   where

@@ -15,7 +15,7 @@ Inv d a i = (i ≤ length d) × (length a ≡ length d) × (a ≡ walked (replic
 
 turn : (d a : List ℕ) (i : ℕ) → Inv d a i → i < length a → Inv d (set a i 0) (i + 1)
 turn d a i inv h =
-    (omega arith, length-set a i 0 ∙ inv .1, rw (inv .2) (walked-next (replicate (length d) 0) d i 0 (length-replicate {A = ℕ} (length d) 0) (omega arith) (sym (getD-replicate {A = ℕ} (length d) i 0 0 (omega arith)))))
+    (omega arith, length-set a i 0 ∙ inv .1, rw (inv .2) (walked-next 0 (replicate (length d) 0) d i 0 (length-replicate {A = ℕ} (length d) 0) (omega arith) (sym (getD-replicate {A = ℕ} (length d) i 0 0 (omega arith)))))
 
 abbrev Inv-loop : tie.InvT-loop
 Inv-loop row₀ i₀ row i = Inv row₀ row i

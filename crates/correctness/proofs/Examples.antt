@@ -1,0 +1,135 @@
+-- A list of calls run, with refused ones in it: what `Aggregation` asks can be met. Assumes nothing.
+use mathlib.Core.Path.{_≡_, refl}
+use mathlib.Core.List.{List, [], _∷_, Permᴰ·middle, List·Permᴰ·cons, List·Permᴰ·nil}
+use Prim.Native.Nat.{ℕ, _<_, _-_}
+use native.Mathlib.Omega.{arith}
+use lib.IntN.{negsuc}
+use lib.ListN.{getD, length, take, replicate}
+use lib.Dec.{lit≤}
+use lib.Ieee.{ofBits, round, ofInt, div}
+use Rattle.correctness.proofs.Correctness.{correctness-64}
+use Rattle.correctness.proofs.Table.{table}
+use Rattle.correctness.specs.Correctness.{Report}
+use Rattle.correctness.specs.Table.{param, none, one, large}
+use Rattle.pine.proofs.Elements.{elements-below}
+use Rattle.field64.specs.Field.{p64}
+use Rattle.doubles.specs.Doubles.{modP, floorDiv, floorOf, plusZero}
+use Rattle.pine.specs.declared.PineParam.{PineParam}
+use Rattle.pine.specs.Param.{Field64, paramRules, paramAnswer}
+use Rattle.pine.specs.Rows.{addRows, elementsRule}
+use Rattle.vdaf.specs.Aggregates.{emptyAnswer, emptyOf, accumulateAnswer, accumulateOf, unshardOf}
+use Rattle.correctness.specs.Tally.{Call, Aggregates, step, run, Begun, FieldRow}
+use Rattle.correctness.proofs.Cut.{Cut, centredNumber}
+use Rattle.correctness.specs.Correctness.{sumℤ}
+use Rattle.correctness.proofs.Aggregation.{aggregation}
+
+abbrev with-dimension : ℕ → PineParam
+with-dimension d = record { «norm_bound» = 1; dimension = d; «frac_bits» = 0; «chunk_len» = 1; «chunk_len_sq_norm_equal» = 1; «num_wr_tests» = 1; «num_wr_successes» = 1 }
+
+abbrev start : Aggregates
+start k = record { row = 0 ∷ 0 ∷ []; tally = [] }
+
+-- what the rows held before does not matter
+begun : (k : ℕ) → Begun Field64 2 (start k)
+unfolding emptyOf emptyAnswer paramAnswer paramRules
+begun k = record { inputs = with-dimension 2; found = 77 ∷ 18446744069414584329 ∷ []; long = refl; call = refl; none = refl }
+
+field-row : (a b : ℕ) → a < p64 → b < p64 → FieldRow p64 2 (a ∷ b ∷ [])
+field-row a b h k = record { long = refl; below = (h, (k, tt)) }
+
+-- -3 and 5, cut twice
+abbrev first-cut : Cut p64 2
+first-cut = record {
+  whole = 18446744069414584318 ∷ 5 ∷ [];
+  left = 10 ∷ 5 ∷ [];
+  right = 18446744069414584308 ∷ 0 ∷ [];
+  left-row = field-row 10 5 (omega arith) (omega arith);
+  right-row = field-row 18446744069414584308 0 (omega arith) (omega arith);
+  adds = refl;
+  number = λ j. negsuc 2;
+}
+
+abbrev second-cut : Cut p64 2
+second-cut = record {
+  whole = 18446744069414584318 ∷ 5 ∷ [];
+  left = 1 ∷ 18446744069414584320 ∷ [];
+  right = 18446744069414584317 ∷ 6 ∷ [];
+  left-row = field-row 1 18446744069414584320 (omega arith) (omega arith);
+  right-row = field-row 18446744069414584317 6 (omega arith) (omega arith);
+  adds = refl;
+  number = λ j. negsuc 2;
+}
+
+-- aggregate 0 gathers the shares of one side over aggregate 7, with a share too long, one with an element p, other inputs and a wrong dimension in between
+abbrev calls : List Call
+calls =
+    Call.accumulate 0 (with-dimension 2) (3 ∷ 4 ∷ [])
+    ∷ Call.empty 0 (with-dimension 3)
+    ∷ Call.empty 0 (with-dimension 2)
+    ∷ Call.accumulate 0 (with-dimension 2) (1 ∷ 2 ∷ 3 ∷ [])
+    ∷ Call.accumulate 0 (with-dimension 2) (1 ∷ 18446744069414584321 ∷ [])
+    ∷ Call.accumulate 7 (with-dimension 2) (1 ∷ 18446744069414584320 ∷ [])
+    ∷ Call.accumulate 7 (with-dimension 2) (10 ∷ 5 ∷ [])
+    ∷ Call.merge 0 (with-dimension 2) 7
+    ∷ Call.merge 0 (with-dimension 0) 7
+    ∷ Call.accumulate 1 (with-dimension 2) (18446744069414584308 ∷ 0 ∷ [])
+    ∷ Call.accumulate 1 (with-dimension 2) (18446744069414584317 ∷ 6 ∷ [])
+    ∷ []
+
+run-0 : run Field64 start calls 0 ≡ record { row = 11 ∷ 4 ∷ []; tally = (1 ∷ 18446744069414584320 ∷ []) ∷ (10 ∷ 5 ∷ []) ∷ [] }
+unfolding run step emptyOf emptyAnswer accumulateOf accumulateAnswer paramAnswer paramRules
+run-0 = refl
+
+-- by the theorem: element 0 of the two aggregates reads as -3 + -3
+reads-0 : centredNumber p64 (getD (addRows p64 (run Field64 start calls 0 .row) (run Field64 start calls 1 .row)) 0 0) ≡ negsuc 5
+unfolding run step emptyOf emptyAnswer accumulateOf accumulateAnswer paramAnswer paramRules sumℤ modP
+reads-0 =
+    aggregation Field64 (omega arith) 2 start begun calls (second-cut ∷ first-cut ∷ []) .reads 0 1 ∣ List·Permᴰ·cons refl (Permᴰ·middle (18446744069414584317 ∷ 6 ∷ []) ((10 ∷ 5 ∷ []) ∷ (18446744069414584308 ∷ 0 ∷ []) ∷ []) []) ∣₁ 0 (omega arith) (refl, (refl, tt)) (omega arith)
+
+-- ---- a report, cut in two: the first row of the table of worked examples
+
+abbrev inputs : PineParam
+inputs = param 1 4 2 2
+
+abbrev left-side : List ℕ
+left-side = 5 ∷ 18446744069414584320 ∷ 0 ∷ 7 ∷ 4712128852136459333 ∷ 6613812840851947673 ∷ 12736496262939004471 ∷ 15523137368101252074 ∷ 12027861843233603113 ∷ 9777509567454608800 ∷ 15501686781378355951 ∷ 14313909076419087323 ∷ 4594210616595436404 ∷ 956523682424107605 ∷ 2893396244277848635 ∷ 6858376947525423350 ∷ 16019991071338850466 ∷ 7023743836218156456 ∷ []
+
+abbrev right-side : List ℕ
+right-side = 18446744069414584317 ∷ 1 ∷ 0 ∷ 18446744069414584314 ∷ 13734615217278124989 ∷ 11832931228562636648 ∷ 5710247806475579850 ∷ 2923606701313332247 ∷ 6418882226180981208 ∷ 8669234501959975521 ∷ 2945057288036228371 ∷ 4132834992995496999 ∷ 13852533452819147917 ∷ 17490220386990476717 ∷ 15553347825136735687 ∷ 11588367121889160972 ∷ 2426752998075733855 ∷ 11423000233196427866 ∷ []
+
+-- a row of field numbers, by rule 12
+row-of : (xs : List ℕ) → elementsRule p64 xs .number ≡ 0 → FieldRow p64 (length xs) xs
+row-of xs e = record { long = refl; below = elements-below p64 0 xs e }
+
+a-report : Report Field64 inputs
+a-report = record {
+  gradient = one ∷ none ∷ none ∷ none ∷ [];
+  stream = 3 ∷ 0 ∷ [];
+  found-measurement = replicate 18 7;
+  found-results = replicate 2 7;
+  measurement = 1 ∷ 0 ∷ 0 ∷ 0 ∷ 1 ∷ 0 ∷ 0 ∷ 0 ∷ 0 ∷ 0 ∷ 1 ∷ 1 ∷ 0 ∷ 1 ∷ 1 ∷ 1 ∷ 0 ∷ 1 ∷ [];
+  results = 1 ∷ (p64 - 1) ∷ [];
+  call = table .short;
+  left = left-side;
+  right = right-side;
+  left-row = row-of left-side refl;
+  right-row = row-of right-side refl;
+  adds = refl;
+}
+
+abbrev empties : Aggregates
+empties k = record { row = replicate 4 0; tally = [] }
+
+empties-begun : (k : ℕ) → Begun Field64 4 (empties k)
+unfolding emptyOf emptyAnswer paramAnswer paramRules
+empties-begun k = record { inputs = inputs; found = replicate 4 9; long = refl; call = refl; none = refl }
+
+-- both shares added, each to an aggregate of its own, after a share that is refused
+abbrev report-calls : List Call
+report-calls = Call.accumulate 0 inputs (1 ∷ 2 ∷ 3 ∷ p64 ∷ []) ∷ Call.accumulate 0 inputs (take 4 left-side) ∷ Call.accumulate 1 inputs (take 4 right-side) ∷ []
+
+-- by the theorem: the decoded coordinate 0 is 1.0, and coordinate 1 is +0, whatever the row held
+decoded-sum : getD (unshardOf Field64 inputs (run Field64 empties report-calls 0 .row) (run Field64 empties report-calls 1 .row) (large ∷ large ∷ large ∷ large ∷ []) .row) 0 plusZero ≡ one
+unfolding run step accumulateOf accumulateAnswer paramAnswer paramRules sumℤ floorOf floorDiv ofBits ofInt div round a-report
+decoded-sum =
+    correctness-64 inputs refl empties empties-begun report-calls (a-report ∷ []) .decoded 0 1 ∣ List·Permᴰ·cons refl (List·Permᴰ·cons refl List·Permᴰ·nil) ∣₁ (large ∷ large ∷ large ∷ large ∷ []) refl .at 0 (omega arith) (lit≤ tt, tt) (lit≤ tt)

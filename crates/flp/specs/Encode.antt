@@ -1,0 +1,106 @@
+-- Encoding a gradient (document 01, "The gradient and norm bits", "The test bits"). Assumes nothing.
+use Prim.Native.Nat.{ℕ, zero, suc, _+_, _-_}
+use mathlib.Core.Bool.{Bool, cond, _||_}
+use mathlib.Core.List.{List, [], _∷_, _++_, map}
+use lib.ListN.{length}
+use lib.Dec.{eqb, ltb, leb}
+use lib.Ieee.{Float}
+use Rattle.rules.specs.declared.Answer.{Answer}
+use Rattle.rules.specs.Rules.{answer, accepted, refuse, inOrder}
+use Rattle.field64.specs.Field.{addMod, subMod, mulMod}
+use Rattle.field64.specs.Sums.{total}
+use Rattle.doubles.specs.Doubles.{coordinateRule, element}
+use Rattle.pine.specs.declared.PineParam.{PineParam}
+use Rattle.pine.specs.Param.{Field, paramAnswer}
+use Rattle.pine.specs.Record.{sqNormBound, sqNormBits, wrTestBound, wrTestBits, encodedInputLen, bytesPerTest, streamLen}
+use Rattle.pine.specs.Rows.{rowRule}
+use Rattle.flp.specs.Bits.{bits}
+use Rattle.flp.specs.Tests.{testsOf}
+
+-- the coordinates as field numbers
+unfoldable pub elements : (p f : ℕ) → List Float → List ℕ
+elements p f gradient = map (λ x. element p x f) gradient
+
+-- v, the sum of squares in the field
+unfoldable pub sqNorm : (p : ℕ) (xs : List ℕ) → ℕ
+sqNorm p xs = total p (map (λ x. mulMod p x x) xs)
+
+-- the success bit of a test, k of these still to be given
+abbrev pub success : (k : ℕ) → ℕ
+success zero = 0
+success (suc k) = 1
+
+-- per test w bits of result + b - 1, low first, then one success bit: 1 for the first k tests, else 0
+unfoldable pub testBits : (p w b k : ℕ) (results : List ℕ) → List ℕ
+testBits p w b k [] = []
+testBits p w b k (r ∷ rs) = bits w (addMod p r (b - 1)) ++ (success k ∷ testBits p w b (k - 1) rs)
+
+-- of a gradient with the elements xs
+module _ (p : ℕ) (i : PineParam) (stream xs : List ℕ) where
+  -- the results of the tests
+  unfoldable pub resultsOf : List ℕ
+  resultsOf = testsOf p (bytesPerTest (i .dimension)) (i .«num_wr_tests») stream xs
+
+  -- the measurement: the gradient's elements; v, then u = B - v, as q bits each; the test bits
+  unfoldable pub measurementOf : List ℕ
+  measurementOf =
+      xs
+      ++ (bits (sqNormBits i) (sqNorm p xs)
+      ++ (bits (sqNormBits i) (subMod p (sqNormBound i) (sqNorm p xs))
+      ++ testBits p (wrTestBits i) (wrTestBound i) (i .«num_wr_successes») resultsOf))
+
+-- rule 8: the first coordinate that is refused, counted from k
+unfoldable pub coordinatesRule : (k : ℕ) (gradient : List Float) → Answer
+coordinatesRule k [] = accepted
+coordinatesRule k (x ∷ xs) = cond (eqb (coordinateRule x .number) 0) (coordinatesRule (suc k) xs) (answer (coordinateRule x .number) k)
+
+-- rule 9
+abbrev pub gradientLenRule : (n d : ℕ) → Answer
+gradientLenRule n d = cond (eqb n d) accepted (answer 9 0)
+
+-- rule 10: v above B
+abbrev pub sqNormRule : (v B : ℕ) → Answer
+sqNormRule v B = refuse (ltb B v) 10 0
+
+-- from -b + 1 to b as a centred number: r is at most b, or r - p at least -b + 1
+abbrev pub inRange : (p b r : ℕ) → Bool
+inRange p b r = leb r b || ltb p (r + b)
+
+-- rule 11: the first result out of range, counted from k
+unfoldable pub rangeRule : (p b k : ℕ) (results : List ℕ) → Answer
+rangeRule p b k [] = accepted
+rangeRule p b k (r ∷ rs) = cond (inRange p b r) (rangeRule p b (suc k) rs) (answer 11 k)
+
+-- the answer and both rows
+pub record Encoded : Type 0 where
+  pub answer : Answer
+  pub measurement : List ℕ
+  pub results : List ℕ
+
+abbrev pub encodeOutcome : Answer → (measurement results : List ℕ) → Encoded
+encodeOutcome a m r = record { answer = a; measurement = m; results = r }
+
+-- what `encode_with_wr_joint_rand` answers, with both rows as found
+module _ (F : Field) (i : PineParam) (gradient : List Float) (stream measurement results : List ℕ) where
+  -- the rules in their order
+  unfoldable pub encodeRules : List Answer
+  encodeRules =
+      paramAnswer F i
+      ∷ rowRule 2 (length stream) (streamLen (i .«num_wr_tests») (i .dimension))
+      ∷ rowRule 3 (length measurement) (encodedInputLen i)
+      ∷ rowRule 4 (length results) (i .«num_wr_tests»)
+      ∷ coordinatesRule 0 gradient
+      ∷ gradientLenRule (length gradient) (i .dimension)
+      ∷ sqNormRule (sqNorm (F .p) (elements (F .p) (i .«frac_bits») gradient)) (sqNormBound i)
+      ∷ rangeRule (F .p) (wrTestBound i) 0 (resultsOf (F .p) i stream (elements (F .p) (i .«frac_bits») gradient))
+      ∷ []
+
+  abbrev pub encodeAnswer : Answer
+  encodeAnswer = inOrder encodeRules
+
+  -- both rows are as found, where the call is refused
+  unfoldable pub encodeOf : Encoded
+  encodeOf =
+      cond (eqb (encodeAnswer .number) 0)
+      (encodeOutcome encodeAnswer (measurementOf (F .p) i stream (elements (F .p) (i .«frac_bits») gradient)) (resultsOf (F .p) i stream (elements (F .p) (i .«frac_bits») gradient)))
+      (encodeOutcome encodeAnswer measurement results)

@@ -1,0 +1,57 @@
+// The FLP of PINE (pine/flp.rs of the Rust): encoding a gradient, the wraparound tests, the two
+// validity circuits and the parts of the vector that they read.
+use pine::PineParam;
+use pine::record::Pine;
+use rules::Answer;
+
+mod checks;
+pub mod parts;
+pub mod validity;
+mod wr_tests;
+
+ghost use mathlib.Core.Path.{_≡_};
+ghost use Rattle.rules.specs.Rules.{inOrder};
+ghost use Rattle.pine.specs.Param.{Field64};
+ghost use Rattle.pine.specs.Outcome.{outcome};
+ghost use Rattle.flp.specs.Tests.{runTestsRules, runTestsOf};
+
+// What a circuit answers: its value and how many gadget calls it made, both 0 beside a refusal.
+#[repr(C)]
+pub struct Circuit {
+    pub answer: Answer,
+    pub value: u64,
+    pub gadget_calls: u64,
+}
+
+// Rules 1 to 7 and 12, of the wraparound tests.
+fn run_wr_tests_answer(param: PineParam, gradient: &[u64], stream: &[u8], results: &[u64]) -> Answer
+    ensures { λ r. ⌜ r ≡ inOrder (runTestsRules Field64 param (now (gradient .entry)) (now (stream .entry)) (now (results .entry))) ⌝ }
+{
+    let inputs = pine::check_param(param);
+    if inputs.number != 0 {
+        return inputs;
+    }
+    let pine = Pine::new(param);
+    let row_1 = pine::rows::check_len(1, gradient.len(), pine.dimension);
+    let row_2 = pine::rows::check_len(2, stream.len(), pine.stream_len());
+    let row_3 = pine::rows::check_len(3, results.len(), pine.num_wr_tests);
+    let elements = pine::rows::check_elements(gradient, 0);
+    row_1.or(row_2.or(row_3.or(elements)))
+}
+
+// Runs the wraparound tests on the gradient's elements, with the lent stream.
+pub fn run_wr_tests(
+    param: PineParam,
+    gradient: &[u64],
+    stream: &[u8],
+    results: &mut [u64],
+) -> Answer
+    ensures { λ r. ⌜ outcome r (now (results .exit)) ≡ runTestsOf Field64 param (now (gradient .entry)) (now (stream .entry)) (now (results .entry)) ⌝ }
+{
+    let answer = run_wr_tests_answer(param, gradient, stream, results);
+    if answer.number != 0 {
+        return answer;
+    }
+    wr_tests::run_block(gradient, (gradient.len() + 3) / 4, stream, results);
+    answer
+}

@@ -1,0 +1,156 @@
+// The commands: what each reads of its line, and what it answers.
+use crate::patterns::double_of;
+use crate::patterns::pattern_of;
+use crate::print;
+use crate::words;
+use crate::words::Cursor;
+use pine::PineParam;
+use pine::record::Lengths;
+use pine::record::Pine;
+use rules::Answer;
+
+struct ReadParam {
+    param: PineParam,
+    next: Cursor,
+}
+
+pub fn bad(out: &mut [u8], at: usize) -> usize {
+    print::text(out, at, b"bad\n")
+}
+
+fn refused(out: &mut [u8], at: usize, answer: Answer) -> usize {
+    let to = print::decimal(out, at, b"refused ", answer.number);
+    let to = print::decimal(out, to, b" ", answer.place);
+    print::text(out, to, b"\n")
+}
+
+// The refusal, or `ok` and one hexadecimal number.
+fn answer_hex(out: &mut [u8], at: usize, answer: Answer, n: u64, width: usize) -> usize {
+    if answer.number != 0 {
+        return refused(out, at, answer);
+    }
+    let to = print::hex(out, at, b"ok ", n, width);
+    print::text(out, to, b"\n")
+}
+
+// The seven inputs.
+fn read_param(line: &[u8], c: Cursor) -> ReadParam {
+    let norm_bound = words::decimal(line, c);
+    let dimension = words::decimal(line, norm_bound.next);
+    let frac_bits = words::decimal(line, dimension.next);
+    let chunk_len = words::decimal(line, frac_bits.next);
+    let chunk_len_sq_norm_equal = words::decimal(line, chunk_len.next);
+    let num_wr_tests = words::decimal(line, chunk_len_sq_norm_equal.next);
+    let num_wr_successes = words::decimal(line, num_wr_tests.next);
+    let next = num_wr_successes.next;
+    let param = PineParam {
+        norm_bound: norm_bound.value,
+        dimension: dimension.value,
+        frac_bits: frac_bits.value,
+        chunk_len: chunk_len.value,
+        chunk_len_sq_norm_equal: chunk_len_sq_norm_equal.value,
+        num_wr_tests: num_wr_tests.value,
+        num_wr_successes: num_wr_successes.value,
+    };
+    ReadParam { param, next }
+}
+
+fn put_bounds(out: &mut [u8], at: usize, pine: Pine) -> usize {
+    let to = print::hex(out, at, b" sq_norm_bound ", pine.sq_norm_bound, 1);
+    let to = print::decimal(out, to, b" sq_norm_bits ", pine.sq_norm_bits);
+    let to = print::hex(out, to, b" wr_test_bound ", pine.wr_test_bound, 1);
+    print::decimal(out, to, b" wr_test_bits ", pine.wr_test_bits)
+}
+
+fn put_input_lens(out: &mut [u8], at: usize, pine: Pine) -> usize {
+    let to = print::decimal(out, at, b" bit_checked_len ", pine.bit_checked_len);
+    let to = print::decimal(out, to, b" encoded_input_len ", pine.encoded_input_len);
+    print::decimal(out, to, b" input_len ", pine.input_len)
+}
+
+// A circuit's name and gadget calls, and the lengths of its vectors.
+fn put_lengths(out: &mut [u8], at: usize, name: &[u8], calls: u64, lengths: Lengths) -> usize {
+    let to = print::decimal(out, at, name, calls);
+    let to = print::decimal(out, to, b" proof_len ", lengths.proof_len);
+    let to = print::decimal(out, to, b" verifier_len ", lengths.verifier_len);
+    let to = print::decimal(out, to, b" joint_rand_len ", lengths.joint_rand_len);
+    let to = print::decimal(out, to, b" prove_rand_len ", lengths.prove_rand_len);
+    print::decimal(out, to, b" query_rand_len ", lengths.query_rand_len)
+}
+
+fn params(line: &[u8], c: Cursor, out: &mut [u8], at: usize) -> usize {
+    let read = read_param(line, c);
+    if !words::ends(line, read.next) {
+        return bad(out, at);
+    }
+    let derived = pine::derive(read.param);
+    let answer = derived.answer;
+    if answer.number != 0 {
+        return refused(out, at, answer);
+    }
+    let pine = derived.pine;
+    let to = print::text(out, at, b"ok");
+    let to = put_bounds(out, to, pine);
+    let to = put_input_lens(out, to, pine);
+    let to = put_lengths(
+        out,
+        to,
+        b" main gadget_calls ",
+        pine.gadget_calls,
+        derived.flp,
+    );
+    let calls = pine.gadget_calls_sq_norm_equal;
+    let to = put_lengths(
+        out,
+        to,
+        b" eq gadget_calls ",
+        calls,
+        derived.flp_sq_norm_equal,
+    );
+    print::text(out, to, b"\n")
+}
+
+fn coord(line: &[u8], c: Cursor, out: &mut [u8], at: usize) -> usize {
+    let frac_bits = words::decimal(line, c);
+    let pattern = words::hex(line, frac_bits.next);
+    if !words::ends(line, pattern.next) {
+        return bad(out, at);
+    }
+    let coordinate = doubles::f64_to_field(double_of(pattern.value), frac_bits.value);
+    answer_hex(out, at, coordinate.answer, coordinate.element, 1)
+}
+
+fn decode(line: &[u8], c: Cursor, out: &mut [u8], at: usize) -> usize {
+    let frac_bits = words::decimal(line, c);
+    let element = words::hex(line, frac_bits.next);
+    if !words::ends(line, element.next) {
+        return bad(out, at);
+    }
+    let decoded = doubles::field_to_f64(element.value, frac_bits.value);
+    answer_hex(out, at, decoded.answer, pattern_of(decoded.value), 16)
+}
+
+// Answers a line.
+pub fn answer(line: &[u8], out: &mut [u8], at: usize) -> usize {
+    let w = words::next_word(line, Cursor::new());
+    let start = w.start;
+    let end = w.end;
+    if start == end {
+        return at;
+    }
+    if line[0] == b'#' {
+        return at;
+    }
+    let name = &line[start..end];
+    let c = Cursor { at: end, ok: true };
+    if check::same(name, b"params") {
+        return params(line, c, out, at);
+    }
+    if check::same(name, b"coord") {
+        return coord(line, c, out, at);
+    }
+    if check::same(name, b"decode") {
+        return decode(line, c, out, at);
+    }
+    bad(out, at)
+}

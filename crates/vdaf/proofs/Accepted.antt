@@ -1,0 +1,104 @@
+-- What an accepted call has met, what makes a call accept, and that no answer turns on the elements of an aggregate. Assumes nothing.
+use mathlib.Core.Path.{_≡_, refl, sym, ap, _∙_}
+use mathlib.Core.List.{List, [], _∷_, _++_}
+use Prim.Native.Nat.{ℕ}
+use lib.ListN.{length, replicate}
+use lib.Ieee.{Float}
+use Rattle.rules.specs.declared.Answer.{Answer}
+use Rattle.rules.specs.Rules.{accepted, first, inOrder}
+use Rattle.rules.proofs.Chain.{passed, accepts}
+use Rattle.pine.specs.declared.PineParam.{PineParam}
+use Rattle.pine.specs.Param.{Field, paramAnswer}
+use Rattle.pine.specs.Rows.{rowRule, elementsFrom, elementsRule, Below, addRows}
+use Rattle.pine.specs.Outcome.{Outcome, outcome}
+use Rattle.pine.proofs.Limits.{param-accepted}
+use Rattle.pine.proofs.Lengths.{right-row, row-right}
+use Rattle.pine.proofs.Elements.{below-append, below-parts, elements-joined, right-elements, elements-below}
+use Rattle.vdaf.specs.Aggregates.{emptyRules, emptyAnswer, emptyOf, accumulateRules, accumulateAnswer, accumulateOf, UnshardOutcome, unshardOutcome, decodedSums, unshardRules, unshardAnswer, unshardOf}
+
+-- accepted inputs, and two rows of d field numbers
+pub record TwoRows (F : Field) (i : PineParam) (left right : List ℕ) : Type 0 where
+  pub param : paramAnswer F i ≡ accepted
+  pub left-long : length left ≡ i .dimension
+  pub right-long : length right ≡ i .dimension
+  pub left-below : Below (F .p) left
+  pub right-below : Below (F .p) right
+
+module _ (F : Field) (i : PineParam) where
+  -- ---- the aggregate of no shares
+
+  module _ (row : List ℕ) where
+    pub emptied : emptyAnswer F i row .number ≡ 0 → (paramAnswer F i ≡ accepted) × (length row ≡ i .dimension)
+    unfolding emptyAnswer
+    emptied h =
+        let r = passed (emptyRules F i row) h in
+        (param-accepted F i (r .0), row-right 1 (length row) (i .dimension) (r .1 .0))
+
+    pub empties : paramAnswer F i ≡ accepted → length row ≡ i .dimension → emptyOf F i row ≡ outcome accepted (replicate (i .dimension) 0)
+    unfolding emptyOf emptyAnswer
+    empties e l = rw (e, right-row 1 (length row) (i .dimension) l)
+
+  -- ---- adding
+
+  module _ (agg share : List ℕ) where
+    pub added : accumulateAnswer F i agg share .number ≡ 0 → TwoRows F i agg share
+    unfolding accumulateAnswer
+    added h =
+        let r = passed (accumulateRules F i agg share) h in
+        let b = below-parts (F .p) agg share (elements-below (F .p) 0 (agg ++ share) (r .1 .1 .1 .0)) in
+        record {
+          param = param-accepted F i (r .0);
+          left-long = row-right 1 (length agg) (i .dimension) (r .1 .0);
+          right-long = row-right 2 (length share) (i .dimension) (r .1 .1 .0);
+          left-below = b .0;
+          right-below = b .1;
+        }
+
+    pub adds : TwoRows F i agg share → accumulateOf F i agg share ≡ outcome accepted (addRows (F .p) agg share)
+    unfolding accumulateOf accumulateAnswer
+    adds t =
+        rw (t .param, right-row 1 (length agg) (i .dimension) (t .left-long), right-row 2 (length share) (i .dimension) (t .right-long), right-elements (F .p) 0 (agg ++ share) (below-append (F .p) agg share (t .left-below) (t .right-below)))
+
+  -- ---- unsharding
+
+  module _ (left right : List ℕ) (row : List Float) where
+    pub unsharded : unshardAnswer F i left right row .number ≡ 0 → TwoRows F i left right × (length row ≡ i .dimension)
+    unfolding unshardAnswer
+    unsharded h =
+        let r = passed (unshardRules F i left right row) h in
+        let b = below-parts (F .p) left right (elements-below (F .p) 0 (left ++ right) (r .1 .1 .1 .1 .0)) in (
+          record {
+            param = param-accepted F i (r .0);
+            left-long = row-right 1 (length left) (i .dimension) (r .1 .0);
+            right-long = row-right 2 (length right) (i .dimension) (r .1 .1 .0);
+            left-below = b .0;
+            right-below = b .1;
+          },
+          row-right 3 (length row) (i .dimension) (r .1 .1 .1 .0),
+        )
+
+    pub unshards : TwoRows F i left right → length row ≡ i .dimension → unshardOf F i left right row ≡ unshardOutcome accepted (decodedSums (F .p) (i .«frac_bits») left right)
+    unfolding unshardOf unshardAnswer
+    unshards t l =
+        rw (t .param, right-row 1 (length left) (i .dimension) (t .left-long), right-row 2 (length right) (i .dimension) (t .right-long), right-row 3 (length row) (i .dimension) l, right-elements (F .p) 0 (left ++ right) (below-append (F .p) left right (t .left-below) (t .right-below)))
+
+  -- ---- what an answer does not turn on
+
+  -- emptying: on no element at all
+  pub empty-unread : (x y : List ℕ) → length x ≡ length y → emptyAnswer F i x ≡ emptyAnswer F i y
+  unfolding emptyAnswer
+  empty-unread x y e = rw e
+
+  -- adding: on no element of the aggregate, if these are field numbers
+  elements-unread : (x y r : List ℕ) → length x ≡ length y → Below (F .p) x → Below (F .p) y → elementsRule (F .p) (x ++ r) ≡ elementsRule (F .p) (y ++ r)
+  elements-unread x y r e f g =
+      elements-joined (F .p) x r ∙ rw (right-elements (F .p) 0 x f, e) (sym (elements-joined (F .p) y r ∙ rw (right-elements (F .p) 0 y g)))
+
+  pub accumulate-unread : (x y r : List ℕ) → length x ≡ length y → Below (F .p) x → Below (F .p) y → accumulateAnswer F i x r ≡ accumulateAnswer F i y r
+  unfolding accumulateAnswer
+  accumulate-unread x y r e f g = rw (e, elements-unread x y r e f g)
+
+  -- nor on any of the row added, if that is another aggregate
+  pub accumulate-unread-right : (x r s : List ℕ) → length r ≡ length s → Below (F .p) r → Below (F .p) s → accumulateAnswer F i x r ≡ accumulateAnswer F i x s
+  unfolding accumulateAnswer
+  accumulate-unread-right x r s e f g = rw (e, elements-joined (F .p) x r, elements-joined (F .p) x s, right-elements (F .p) (length x) r f, right-elements (F .p) (length x) s g)

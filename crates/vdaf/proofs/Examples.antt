@@ -1,0 +1,78 @@
+-- Worked examples of the definitions, computed. Assumes nothing.
+use mathlib.Core.Path.{_≡_, refl}
+use mathlib.Core.List.{List, [], _∷_}
+use Prim.Native.Nat.{ℕ, _+_, _-_, _^_}
+use lib.ListN.{replicate}
+use lib.Ieee.{Float, binary64, ofBits, ofInt, neg, div}
+use Rattle.rules.specs.Rules.{answer, accepted}
+use Rattle.field64.specs.Field.{p64}
+use Rattle.doubles.specs.Doubles.{plusZero, centred, decoded}
+use Rattle.pine.specs.declared.PineParam.{PineParam}
+use Rattle.pine.specs.Param.{Field64, paramRules, paramAnswer}
+use Rattle.pine.specs.Outcome.{Outcome, outcome}
+use Rattle.vdaf.specs.Aggregates.{emptyAnswer, emptyOf, accumulateAnswer, accumulateOf, UnshardOutcome, unshardOutcome, decodedSums, unshardAnswer, unshardOf}
+
+-- the inputs with this dimension and these fractional bits; the others are the least
+abbrev inputs : (d f : ℕ) → PineParam
+inputs d f = record { «norm_bound» = 1; dimension = d; «frac_bits» = f; «chunk_len» = 1; «chunk_len_sq_norm_equal» = 1; «num_wr_tests» = 1; «num_wr_successes» = 1 }
+
+-- ---- emptying: what the row held does not matter, its length does
+record Emptying : Type 0 where
+  done : emptyOf Field64 (inputs 2 0) (77 ∷ (p64 + 8) ∷ []) ≡ outcome accepted (0 ∷ 0 ∷ [])
+  short : emptyOf Field64 (inputs 2 0) (77 ∷ []) ≡ outcome (answer 7 1) (77 ∷ [])
+  inputs-first : emptyOf Field64 (inputs 0 31) (77 ∷ []) ≡ outcome (answer 3 0) (77 ∷ [])
+
+emptying : Emptying
+unfolding emptyOf emptyAnswer paramAnswer paramRules
+emptying = record { done = refl; short = refl; inputs-first = refl }
+
+-- ---- adding
+abbrev sum : (d f : ℕ) (agg share : List ℕ) → Outcome
+sum d f agg share = accumulateOf Field64 (inputs d f) agg share
+
+record Adding : Type 0 where
+  wraps : sum 2 0 (1 ∷ (p64 - 1) ∷ []) (5 ∷ 3 ∷ []) ≡ outcome accepted (6 ∷ 2 ∷ [])
+  long : sum 2000 0 (replicate 2000 3) (replicate 2000 4) ≡ outcome accepted (replicate 2000 7)
+  -- the aggregate is row 1, the share row 2, and the first row of a wrong length counts
+  agg-short : sum 2 0 (1 ∷ []) (5 ∷ []) ≡ outcome (answer 7 1) (1 ∷ [])
+  share-long : sum 2 0 (1 ∷ 2 ∷ []) (5 ∷ 3 ∷ 1 ∷ []) ≡ outcome (answer 7 2) (1 ∷ 2 ∷ [])
+  -- a length before an element
+  length-first : sum 2 0 (p64 ∷ 2 ∷ []) (5 ∷ []) ≡ outcome (answer 7 2) (p64 ∷ 2 ∷ [])
+  -- elements are counted over both rows
+  in-agg : sum 2 0 (1 ∷ p64 ∷ []) (p64 ∷ 3 ∷ []) ≡ outcome (answer 12 1) (1 ∷ p64 ∷ [])
+  in-share : sum 2 0 (1 ∷ 2 ∷ []) (5 ∷ p64 ∷ []) ≡ outcome (answer 12 3) (1 ∷ 2 ∷ [])
+  inputs-first : sum 2 31 (1 ∷ []) (p64 ∷ []) ≡ outcome (answer 4 0) (1 ∷ [])
+
+adding : Adding
+unfolding accumulateOf accumulateAnswer paramAnswer paramRules
+adding = record {
+  wraps = refl;
+  long = refl;
+  agg-short = refl;
+  share-long = refl;
+  length-first = refl;
+  in-agg = refl;
+  in-share = refl;
+  inputs-first = refl;
+}
+
+-- ---- unsharding
+abbrev doubles : (d f : ℕ) (left right : List ℕ) (row : List Float) → UnshardOutcome
+doubles d f left right row = unshardOf Field64 (inputs d f) left right row
+
+record Unsharding : Type 0 where
+  -- p - 1 and 3 at f 2: -0.25 and 0.75; the decoded row's own contents do not matter
+  quarters : doubles 2 2 ((p64 - 5) ∷ (p64 - 1) ∷ []) (4 ∷ 4 ∷ []) (ofBits binary64 0x7ff8_0000_0000_0000 ∷ plusZero ∷ [])
+      ≡ unshardOutcome accepted (ofBits binary64 0xbfd0_0000_0000_0000 ∷ ofBits binary64 0x3fe8_0000_0000_0000 ∷ [])
+  -- a sum of 0 is +0 at the largest f
+  zero-sum : doubles 1 30 ((p64 - 7) ∷ []) (7 ∷ []) (ofBits binary64 0x3ff0_0000_0000_0000 ∷ []) ≡ unshardOutcome accepted (plusZero ∷ [])
+  -- 2 ^ 53 + 1 and 2 ^ 53 + 3 are ties
+  ties : doubles 2 0 ((2 ^ 53) ∷ (2 ^ 53) ∷ []) (1 ∷ 3 ∷ []) (plusZero ∷ plusZero ∷ [])
+      ≡ unshardOutcome accepted (ofBits binary64 0x4340_0000_0000_0000 ∷ ofBits binary64 0x4340_0000_0000_0002 ∷ [])
+  -- the decoded row is row 3; an element is refused after any length
+  row-short : doubles 1 0 (p64 ∷ []) (1 ∷ []) [] ≡ unshardOutcome (answer 7 3) []
+  in-right : doubles 1 0 (1 ∷ []) (p64 ∷ []) (plusZero ∷ []) ≡ unshardOutcome (answer 12 1) (plusZero ∷ [])
+
+unsharding : Unsharding
+unfolding unshardOf unshardAnswer decodedSums decoded centred paramAnswer paramRules ofBits ofInt neg div
+unsharding = record { quarters = refl; zero-sum = refl; ties = refl; row-short = refl; in-right = refl }
