@@ -4,3 +4,4 @@ pub mod Tests
 pub mod Encode
 pub mod Circuits
 pub mod OnParts
+pub mod Words

@@ -5,6 +5,7 @@ use rules::Answer;
 mod checks;
 pub mod parts;
 pub mod validity;
+mod wide;
 
 // What a circuit answers: its value and how many gadget calls it made, both 0 beside a refusal.
 #[repr(C)]
