@@ -56,7 +56,7 @@ pub extern "C" fn pine_encode_with_wr_joint_rand(
 ) -> Answer
     ensures { λ r. ⌜ encodeOutcome r (now (measurement .exit)) (now (results .exit)) ≡ encodeOf Field64 param (now (gradient .entry)) (now (stream .entry)) (now (measurement .entry)) (now (results .entry)) ⌝ }
 {
-    flp::encode_with_wr_joint_rand(param, gradient, stream, measurement, results)
+    encode::encode_with_wr_joint_rand(param, gradient, stream, measurement, results)
 }
 
 #[no_mangle]
@@ -68,7 +68,7 @@ pub extern "C" fn pine_run_wr_tests(
 ) -> Answer
     ensures { λ r. ⌜ outcome r (now (results .exit)) ≡ runTestsOf Field64 param (now (gradient .entry)) (now (stream .entry)) (now (results .entry)) ⌝ }
 {
-    flp::run_wr_tests(param, gradient, stream, results)
+    wr_tests::run_wr_tests(param, gradient, stream, results)
 }
 
 #[no_mangle]
@@ -80,7 +80,7 @@ pub extern "C" fn pine_valid(
 ) -> Circuit
     ensures { λ r. ⌜ r ≡ validOf Field64 param «num_shares» (now (full .entry)) (now («joint_rand» .entry)) ⌝ }
 {
-    flp::validity::valid(param, num_shares, full, joint_rand)
+    validity::valid(param, num_shares, full, joint_rand)
 }
 
 #[no_mangle]
@@ -91,7 +91,7 @@ pub extern "C" fn pine_valid_sq_norm_equal(
 ) -> Circuit
     ensures { λ r. ⌜ r ≡ validEqualOf Field64 param «num_shares» (now (full .entry)) ⌝ }
 {
-    flp::validity::valid_sq_norm_equal(param, num_shares, full)
+    validity::valid_sq_norm_equal(param, num_shares, full)
 }
 
 #[no_mangle]
