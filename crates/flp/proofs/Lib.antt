@@ -14,6 +14,7 @@ pub mod Encoded
 pub mod Valid
 pub mod Sense
 -- what the circuits' functions cite
+pub mod Words
 pub mod Chunks
 pub mod Turns
 pub mod TestTurns

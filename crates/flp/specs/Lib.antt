@@ -6,3 +6,4 @@ pub mod Encode
 pub mod Steps
 pub mod Circuits
 pub mod OnParts
+pub mod Words
