@@ -1,5 +1,5 @@
 # Thin: each target is one command.
-.PHONY: test demo differential lib example
+.PHONY: test demo differential lib example attack
 
 # the gate: .ci/run runs this
 test:
@@ -16,3 +16,7 @@ lib:
 # builds the C example with gcc and with g++, and runs it
 example: lib
 	examples/c/run
+
+# calls every function of the archive with arbitrary arguments; SEED and COUNT are the driver's
+attack: lib
+	tests/attack/run $(SEED) $(COUNT)
