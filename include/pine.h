@@ -21,15 +21,15 @@
  * - Every element of a row that is read has been written once. Output rows may be uninitialised.
  * - The floating-point environment is C's default: round to nearest, exceptions masked, subnormals kept
  *   (neither flush-to-zero nor denormals-are-zero, which gcc's -ffast-math turns on in main programs).
- * - The stack has room: docs/C.md has the measured need of each call, below one page for all.
+ * - The stack has room: docs/C.md has the measured need of each call, at most 2680 bytes.
  *
  * No call keeps state, allocates, locks, does input or output, or fails otherwise than by its answer:
  * any number of threads may call at once. Nothing depends on a NaN's payload or sign: a NaN is refused,
  * and no call gives one. Time is not constant: it depends on the lengths, and on the data where a call
  * is refused.
  *
- * The archive is code for x86-64 (System V calls, position-independent). All it takes from a C library
- * is memset, memcpy and memmove.
+ * The archive is code for x86-64 (System V calls, position-independent, no instruction beyond SSE2). All it
+ * takes from a C library is memcpy and memset.
  */
 #ifndef PINE_H
 #define PINE_H

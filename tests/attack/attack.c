@@ -229,7 +229,7 @@ static double *coordinates(int i, size_t len, PineParam p, int in_order) {
         double size = (double)below(once_in(2) ? 2 : share) / scale;
         row[k] = once_in(2) ? size : -size;
     }
-    while (!in_order && len != 0 && once_in(8)) {
+    while (!in_order && len != 0 && once_in(4)) {
         row[below(len)] = any_double();
     }
     return row;

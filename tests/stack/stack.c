@@ -1,6 +1,6 @@
 /* How much stack each call of libpine_c.a takes: it is run on a painted stack of its own, on accepted and
- * on refused arguments, and the paint that is left is counted. Printed are the bytes below the caller's
- * own frame: return address, arguments on the stack and all that the call uses itself. */
+ * on refused arguments, and the paint that is left is counted. What is printed includes the arguments that
+ * are passed on the stack, the return address and the struct that is returned. */
 #define _GNU_SOURCE 1
 #include "pine.h"
 
@@ -93,9 +93,11 @@ int main(void) {
     size_t most[CALLS] = {0};
     size_t base = measure(nothing);
     static const uint64_t dimensions[] = {1, 2, 3, 4, 5, 15, 16, 17, 64, 1000, 65536};
+    static const uint64_t numbers_of_tests[] = {1, 2, 9, 100, 256};
     for (size_t k = 0; k < sizeof dimensions / sizeof *dimensions; k++) {
-        for (uint64_t t = 1; t <= 256; t = t * 3 + (t == 81)) {
+        for (size_t l = 0; l < sizeof numbers_of_tests / sizeof *numbers_of_tests; l++) {
             for (int wrong = 0; wrong < 4; wrong++) {
+                uint64_t t = numbers_of_tests[l];
                 PineParam p = {1u << 16, dimensions[k], 8, 1 + k, 7, t, t};
                 param = p;
                 derived = pine_derive(param);

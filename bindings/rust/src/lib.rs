@@ -5,8 +5,8 @@
 //! and turns the answer into a [`Result`]; its documentation says which [`Rule`]s it may refuse by, in
 //! the order in which they are tested. A refused call leaves every row as it was.
 //!
-//! A field number is a `u64` below [`FIELD_MODULUS`]. Row lengths come from [`derive`]. No function
-//! keeps state, allocates or panics. The floating-point environment must be the default one, as it must
+//! A field number is a `u64` below [`FIELD_MODULUS`]. Row lengths come from [`derive()`]. No function
+//! keeps state or allocates. The floating-point environment must be the default one, as it must
 //! be for Rust itself.
 //!
 //! ```

@@ -8,15 +8,26 @@ use pine::Derived;
 use pine::PineParam;
 use rules::Answer;
 ghost use mathlib.Core.Path.{_≡_};
+ghost use Rattle.rules.specs.Rules.{answer, inOrder};
 ghost use Rattle.field64.specs.Field.{p64};
 ghost use Rattle.doubles.specs.Doubles.{coordinateOf, decodedOf};
 ghost use Rattle.pine.specs.Param.{Field64, paramAnswer};
-ghost use Rattle.pine.specs.Record.{deriveOf};
+ghost use Rattle.pine.specs.Record.{deriveOf, bitCheckedLen, encodedInputLen};
 ghost use Rattle.pine.specs.Outcome.{outcome};
 ghost use Rattle.flp.specs.Tests.{runTestsOf};
 ghost use Rattle.flp.specs.Encode.{encodeOutcome, encodeOf};
-ghost use Rattle.flp.specs.Circuits.{validOf, validEqualOf};
+ghost use Rattle.flp.specs.Circuits.{validOf, validEqualOf, partRules, gradientPartOf, checkedPartOf, resultsPartOf};
 ghost use Rattle.vdaf.specs.Aggregates.{emptyOf, accumulateOf, unshardOutcome, unshardOf};
+ghost use Rattle.pine_c.specs.Places.{partAt, named};
+
+// A part of the caller's row by its place, since no reference is handed back to C: len elements from
+// start on. Both are 0 beside a refusal.
+#[repr(C)]
+pub struct Part {
+    pub answer: Answer,
+    pub start: u64,
+    pub len: u64,
+}
 
 #[no_mangle]
 pub extern "C" fn pine_check_param(param: PineParam) -> Answer
@@ -92,6 +103,58 @@ pub extern "C" fn pine_valid_sq_norm_equal(
     ensures { λ r. ⌜ r ≡ validEqualOf Field64 param «num_shares» (now (full .entry)) ⌝ }
 {
     validity::valid_sq_norm_equal(param, num_shares, full)
+}
+
+fn part_at(number: u64, place: u64, start: usize, len: usize) -> Part
+    ensures { λ r. ⌜ r ≡ partAt (answer number place) start len ⌝ }
+{
+    if number != 0 {
+        return Part {
+            answer: Answer { number, place },
+            start: 0,
+            len: 0,
+        };
+    }
+    Part {
+        answer: Answer { number, place },
+        start: start as u64,
+        len: len as u64,
+    }
+}
+
+// The first clause of each part says its place, the second which elements stand there.
+
+#[no_mangle]
+pub extern "C" fn pine_gradient_part(param: PineParam, full: &[u64]) -> Part
+    ensures { λ r. ⌜ r ≡ partAt (inOrder (partRules Field64 param (now (full .entry)))) 0 (param .dimension) ⌝ }
+    ensures { λ r. ⌜ named r (now (full .entry)) ≡ gradientPartOf Field64 param (now (full .entry)) ⌝ }
+{
+    let mut number = 0;
+    let mut place = 0;
+    let part = flp::parts::gradient_part(param, full, &mut number, &mut place);
+    part_at(number, place, 0, part.len())
+}
+
+#[no_mangle]
+pub extern "C" fn pine_checked_part(param: PineParam, full: &[u64]) -> Part
+    ensures { λ r. ⌜ r ≡ partAt (inOrder (partRules Field64 param (now (full .entry)))) (param .dimension) (bitCheckedLen param) ⌝ }
+    ensures { λ r. ⌜ named r (now (full .entry)) ≡ checkedPartOf Field64 param (now (full .entry)) ⌝ }
+{
+    let mut number = 0;
+    let mut place = 0;
+    let part = flp::parts::checked_part(param, full, &mut number, &mut place);
+    part_at(number, place, param.dimension as usize, part.len())
+}
+
+#[no_mangle]
+pub extern "C" fn pine_results_part(param: PineParam, full: &[u64]) -> Part
+    ensures { λ r. ⌜ r ≡ partAt (inOrder (partRules Field64 param (now (full .entry)))) (encodedInputLen param) (param .«num_wr_tests») ⌝ }
+    ensures { λ r. ⌜ named r (now (full .entry)) ≡ resultsPartOf Field64 param (now (full .entry)) ⌝ }
+{
+    let mut number = 0;
+    let mut place = 0;
+    let part = flp::parts::results_part(param, full, &mut number, &mut place);
+    part_at(number, place, full.len() - part.len(), part.len())
 }
 
 #[no_mangle]
