@@ -15,7 +15,7 @@ use Rattle.pine.specs.Param.{Field64}
 use Rattle.pine.specs.Record.{bitCheckedLen, encodedInputLen, inputLen}
 use Rattle.pine.specs.Outcome.{Outcome, outcome, finish}
 use Rattle.flp.specs.Circuits.{gradientPart, checkedPart, resultsPart, partRules, partOf, gradientPartOf, checkedPartOf, resultsPartOf}
-use Rattle.flp.proofs.Verdicts.{part-met}
+use Rattle.validity.proofs.Verdicts.{part-met}
 use Rattle.pine_c.specs.declared.Part.{Part}
 use Rattle.pine_c.specs.Places.{partAt, named}
 
