@@ -4,9 +4,12 @@
 
 mod by_hand;
 
-use pine_oracle::pine::f64_to_field_row;
+use pine_oracle::pine::{f64_to_field_row, sum_of_decoded};
 use prio_draft09::field::{Field64, FieldElement};
-use std::{hint::black_box, time::Instant};
+use std::{
+    hint::black_box,
+    time::{Instant, SystemTime},
+};
 
 #[link(name = "leaves", kind = "static")]
 extern "C" {
@@ -16,6 +19,7 @@ extern "C" {
     fn leaves_sum_of_products(a: *const u64, an: usize, b: *const u64, bn: usize) -> u64;
     fn leaves_sums(a: *mut u64, an: usize, b: *const u64, bn: usize) -> u64;
     fn leaves_elements(xs: *const f64, xn: usize, f: u64, out: *mut u64, on: usize) -> u64;
+    fn leaves_sum_of_decoded(ys: *const u64, n: usize, f: u64) -> f64;
 }
 
 const SIZES: [usize; 2] = [1000, 65536];
@@ -184,6 +188,19 @@ fn conversions() -> Vec<Way<Vec<f64>>> {
     ]
 }
 
+/// Field numbers of either sign, below 2^30 in size.
+fn aggregate(random: &mut Random, n: usize) -> Vec<u64> {
+    let element = |r: &mut Random| {
+        let size = r.next() >> 34;
+        if r.next() % 2 == 0 {
+            size
+        } else {
+            by_hand::P - 1 - size
+        }
+    };
+    (0..n).map(|_| element(random)).collect()
+}
+
 fn table() -> Vec<Row> {
     let mut rows = Vec::new();
     for n in SIZES {
@@ -230,6 +247,23 @@ fn table() -> Vec<Row> {
         ]));
         rows.push(row("f64_to_field, sizes mixed", n, mixed, conversions()));
         rows.push(row("f64_to_field, a gradient", n, gradient, conversions()));
+        rows.push(row("field_to_f64, added up", n, aggregate, vec![
+            ("original", |ys| {
+                let (row, scale) = (fields(ys), (1u64 << FRAC_BITS) as f64);
+                let (ns, sum) = timed(|| sum_of_decoded(&row, scale).unwrap());
+                (ns, vec![sum.to_bits()])
+            }),
+            ("by hand", |ys| {
+                let (row, scale) = (ys.clone(), (1u64 << FRAC_BITS) as f64);
+                let (ns, sum) = timed(|| by_hand::sum_of_decoded(&row, scale));
+                (ns, vec![sum.to_bits()])
+            }),
+            ("ours, after a scan", |ys| {
+                let row = ys.clone();
+                let (ns, sum) = timed(|| unsafe { leaves_sum_of_decoded(row.as_ptr(), row.len(), FRAC_BITS) });
+                (ns, vec![sum.to_bits()])
+            }),
+        ]));
     }
     rows
 }
@@ -237,7 +271,7 @@ fn table() -> Vec<Row> {
 fn main() {
     let only = std::env::args().nth(1).unwrap_or_default();
     let rows: Vec<Row> = table().into_iter().filter(|r| r.name.contains(&only)).collect();
-    let mut random = Random(Instant::now().elapsed().as_nanos() as u64 ^ std::process::id() as u64);
+    let mut random = Random(SystemTime::UNIX_EPOCH.elapsed().unwrap().as_nanos() as u64);
     println!("{:<27}{:>7}  {:<28}{:>8}  {:<15}  {:>6}", "row", "length", "way", "median", "quartiles", "/ ours");
     println!("{:<27}{:>7}  {:<28}{:>8}  {:<15}", "", "", "", "ns an element", "");
     for row in rows {

@@ -9,7 +9,7 @@ use lib.IntN.{ℤ, pos, negsuc, natAbs, subℕ, _+ℤ_}
 use borrow.Author.Tests.{ltb-true, ltb-false, lt-ltb, le-ltb}
 use Rattle.field64.proofs.Modular.{add-both, cancel}
 use Rattle.doubles.specs.Doubles.{modP}
-use Rattle.correctness.specs.Report.{centredNumber}
+use Rattle.correctness.proofs.Cut.{centredNumber}
 
 -- a whole number is `plus` less `minus`
 abbrev pub plus : ℤ → ℕ

@@ -1,18 +1,26 @@
 -- A list of calls run, with refused ones in it: what `Aggregation` asks can be met. Assumes nothing.
 use mathlib.Core.Path.{_≡_, refl}
-use mathlib.Core.List.{List, [], _∷_, Permᴰ·middle, List·Permᴰ·cons}
-use Prim.Native.Nat.{ℕ, _<_}
+use mathlib.Core.List.{List, [], _∷_, Permᴰ·middle, List·Permᴰ·cons, List·Permᴰ·nil}
+use Prim.Native.Nat.{ℕ, _<_, _-_}
 use native.Mathlib.Omega.{arith}
 use lib.IntN.{negsuc}
-use lib.ListN.{getD}
+use lib.ListN.{getD, length, take, replicate}
+use lib.Dec.{lit≤}
+use lib.Ieee.{ofBits, round, ofInt, div}
+use Rattle.correctness.proofs.Correctness.{correctness-64}
+use Rattle.correctness.proofs.Table.{table}
+use Rattle.correctness.specs.Correctness.{Report}
+use Rattle.correctness.specs.Table.{param, none, one, large}
+use Rattle.pine.proofs.Elements.{elements-below}
 use Rattle.field64.specs.Field.{p64}
-use Rattle.doubles.specs.Doubles.{modP}
+use Rattle.doubles.specs.Doubles.{modP, floorDiv, floorOf, plusZero}
 use Rattle.pine.specs.declared.PineParam.{PineParam}
 use Rattle.pine.specs.Param.{Field64, paramRules, paramAnswer}
-use Rattle.pine.specs.Rows.{addRows}
-use Rattle.vdaf.specs.Aggregates.{emptyAnswer, emptyOf, accumulateAnswer, accumulateOf}
+use Rattle.pine.specs.Rows.{addRows, elementsRule}
+use Rattle.vdaf.specs.Aggregates.{emptyAnswer, emptyOf, accumulateAnswer, accumulateOf, unshardOf}
 use Rattle.correctness.specs.Tally.{Call, Aggregates, step, run, Begun, FieldRow}
-use Rattle.correctness.specs.Report.{Cut, centredNumber, sumℤ}
+use Rattle.correctness.proofs.Cut.{Cut, centredNumber}
+use Rattle.correctness.specs.Correctness.{sumℤ}
 use Rattle.correctness.proofs.Aggregation.{aggregation}
 
 abbrev with-dimension : ℕ → PineParam
@@ -77,3 +85,51 @@ reads-0 : centredNumber p64 (getD (addRows p64 (run Field64 start calls 0 .row) 
 unfolding run step emptyOf emptyAnswer accumulateOf accumulateAnswer paramAnswer paramRules sumℤ modP
 reads-0 =
     aggregation Field64 (omega arith) 2 start begun calls (second-cut ∷ first-cut ∷ []) .reads 0 1 ∣ List·Permᴰ·cons refl (Permᴰ·middle (18446744069414584317 ∷ 6 ∷ []) ((10 ∷ 5 ∷ []) ∷ (18446744069414584308 ∷ 0 ∷ []) ∷ []) []) ∣₁ 0 (omega arith) (refl, (refl, tt)) (omega arith)
+
+-- ---- a report, cut in two: the first row of the table of worked examples
+
+abbrev inputs : PineParam
+inputs = param 1 4 2 2
+
+abbrev left-side : List ℕ
+left-side = 5 ∷ 18446744069414584320 ∷ 0 ∷ 7 ∷ 4712128852136459333 ∷ 6613812840851947673 ∷ 12736496262939004471 ∷ 15523137368101252074 ∷ 12027861843233603113 ∷ 9777509567454608800 ∷ 15501686781378355951 ∷ 14313909076419087323 ∷ 4594210616595436404 ∷ 956523682424107605 ∷ 2893396244277848635 ∷ 6858376947525423350 ∷ 16019991071338850466 ∷ 7023743836218156456 ∷ []
+
+abbrev right-side : List ℕ
+right-side = 18446744069414584317 ∷ 1 ∷ 0 ∷ 18446744069414584314 ∷ 13734615217278124989 ∷ 11832931228562636648 ∷ 5710247806475579850 ∷ 2923606701313332247 ∷ 6418882226180981208 ∷ 8669234501959975521 ∷ 2945057288036228371 ∷ 4132834992995496999 ∷ 13852533452819147917 ∷ 17490220386990476717 ∷ 15553347825136735687 ∷ 11588367121889160972 ∷ 2426752998075733855 ∷ 11423000233196427866 ∷ []
+
+-- a row of field numbers, by rule 12
+row-of : (xs : List ℕ) → elementsRule p64 xs .number ≡ 0 → FieldRow p64 (length xs) xs
+row-of xs e = record { long = refl; below = elements-below p64 0 xs e }
+
+a-report : Report Field64 inputs
+a-report = record {
+  gradient = one ∷ none ∷ none ∷ none ∷ [];
+  stream = 3 ∷ 0 ∷ [];
+  found-measurement = replicate 18 7;
+  found-results = replicate 2 7;
+  measurement = 1 ∷ 0 ∷ 0 ∷ 0 ∷ 1 ∷ 0 ∷ 0 ∷ 0 ∷ 0 ∷ 0 ∷ 1 ∷ 1 ∷ 0 ∷ 1 ∷ 1 ∷ 1 ∷ 0 ∷ 1 ∷ [];
+  results = 1 ∷ (p64 - 1) ∷ [];
+  call = table .short;
+  left = left-side;
+  right = right-side;
+  left-row = row-of left-side refl;
+  right-row = row-of right-side refl;
+  adds = refl;
+}
+
+abbrev empties : Aggregates
+empties k = record { row = replicate 4 0; tally = [] }
+
+empties-begun : (k : ℕ) → Begun Field64 4 (empties k)
+unfolding emptyOf emptyAnswer paramAnswer paramRules
+empties-begun k = record { inputs = inputs; found = replicate 4 9; long = refl; call = refl; none = refl }
+
+-- both shares added, each to an aggregate of its own, after a share that is refused
+abbrev report-calls : List Call
+report-calls = Call.accumulate 0 inputs (1 ∷ 2 ∷ 3 ∷ p64 ∷ []) ∷ Call.accumulate 0 inputs (take 4 left-side) ∷ Call.accumulate 1 inputs (take 4 right-side) ∷ []
+
+-- by the theorem: the decoded coordinate 0 is 1.0, and coordinate 1 is +0, whatever the row held
+decoded-sum : getD (unshardOf Field64 inputs (run Field64 empties report-calls 0 .row) (run Field64 empties report-calls 1 .row) (large ∷ large ∷ large ∷ large ∷ []) .row) 0 plusZero ≡ one
+unfolding run step accumulateOf accumulateAnswer paramAnswer paramRules sumℤ floorOf floorDiv ofBits ofInt div round a-report
+decoded-sum =
+    correctness-64 inputs refl empties empties-begun report-calls (a-report ∷ []) .decoded 0 1 ∣ List·Permᴰ·cons refl (List·Permᴰ·cons refl List·Permᴰ·nil) ∣₁ (large ∷ large ∷ large ∷ large ∷ []) refl .at 0 (omega arith) (lit≤ tt, tt) (lit≤ tt)

@@ -13,7 +13,8 @@ use Rattle.field64.proofs.Sums.{evaluate-below, total-cons, total-perm}
 use Rattle.pine.specs.Rows.{addRows}
 use Rattle.pine.proofs.Added.{getD-addRows}
 use Rattle.correctness.specs.Tally.{Aggregate, Each, column, Tallied}
-use Rattle.correctness.specs.Report.{Cut, shares, wholes, StandsFor, centredNumber, sumℤ, numbersSum}
+use Rattle.correctness.proofs.Cut.{Cut, shares, wholes, StandsFor, centredNumber, numbersSum}
+use Rattle.correctness.specs.Correctness.{sumℤ}
 use Rattle.correctness.proofs.Tally.{sum}
 use Rattle.correctness.proofs.Centred.{plus, minus, modP-parts, sum-parts-mod, reads-as}
 

@@ -7,6 +7,12 @@ use lib.Ieee.{ofBits, ofInt, neg, div}
 use Rattle.field64.specs.Field.{p64}
 use Rattle.doubles.specs.Doubles.{unusable, floorDiv, clamp, modP, floorOf, coordinateOf, centred, decoded, decodedOf}
 use Rattle.doubles.specs.Doubles as doubles
+use Rattle.field64.specs.Sums.{evaluate}
+use Rattle.pine.specs.Param.{paramRules, paramAnswer}
+use Rattle.pine.specs.Record.{halvings, digits, sqNormBound, sqNormBits, wrTestBound, wrTestBits, bitCheckedLen, encodedInputLen}
+use Rattle.flp.specs.Bits.{bits, groups}
+use Rattle.flp.specs.Tests.{pairs, weighed, weigh, testOf, testsOf}
+use Rattle.flp.specs.Encode.{elements, sqNorm, testBits, resultsOf, measurementOf, coordinatesRule, rangeRule, encodeRules, encodeOf}
 use Rattle.correctness.specs.Table.{Table, double, element}
 
 zero-at : (f : ℕ) → f ≤ 30 → coordinateOf p64 (double 0x8000_0000_0000_0000) f ≡ element 0
@@ -14,7 +20,7 @@ unfolding coordinateOf ofBits unusable doubles.element floorOf floorDiv clamp mo
 zero-at f h = simp (le-ltb 30 f h, zero-mul)
 
 pub table : Table
-unfolding coordinateOf decodedOf ofBits unusable doubles.element floorOf floorDiv clamp modP centred decoded ofInt neg div
+unfolding coordinateOf decodedOf ofBits unusable doubles.element floorOf floorDiv clamp modP centred decoded ofInt neg div encodeOf encodeRules measurementOf resultsOf coordinatesRule rangeRule elements sqNorm testBits bits evaluate groups pairs weighed weigh testOf testsOf halvings digits sqNormBound sqNormBits wrTestBound wrTestBits bitCheckedLen encodedInputLen paramAnswer paramRules
 table = record {
   minus-quarter = refl;
   three-quarters = refl;
@@ -27,4 +33,10 @@ table = record {
   middle-1 = refl;
   tie-down = refl;
   tie-up = refl;
+  short = refl;
+  long = refl;
+  wraps = refl;
+  wraps-v = refl;
+  wraps-b = refl;
+  far = refl;
 }

@@ -1,4 +1,4 @@
+-- `Table`: the worked examples. `Tally`: aggregates under a list of calls. `Correctness`: demand 3 of document 01.
 pub mod Table
 pub mod Tally
-pub mod Report
-pub mod Aggregation
+pub mod Correctness

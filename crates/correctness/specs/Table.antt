@@ -1,12 +1,19 @@
 -- The worked examples of document 01, "Bench rows", that are marked P, over the definitions that the contracts cite. A double is given by its bit pattern. Assumes nothing.
 use Prim.Native.Nat.{ℕ, _+_, _-_, _/_, _^_, _≤_}
 use mathlib.Core.Path.{_≡_}
+use mathlib.Core.List.{[], _∷_}
+use lib.ListN.{take, drop, replicate}
 use lib.Ieee.{Float, binary64, ofBits}
-use Rattle.rules.specs.Rules.{accepted}
+use Rattle.rules.specs.Rules.{answer, accepted}
 use Rattle.field64.specs.Field.{p64}
 use Rattle.doubles.specs.Doubles.{coordinateOf, decodedOf}
 use Rattle.doubles.specs.declared.Coordinate.{Coordinate}
 use Rattle.doubles.specs.declared.Decoded.{Decoded}
+use Rattle.field64.specs.Sums.{number}
+use Rattle.pine.specs.declared.PineParam.{PineParam}
+use Rattle.pine.specs.Param.{Field64}
+use Rattle.pine.specs.Record.{wrTestBound}
+use Rattle.flp.specs.Encode.{encodeOutcome, encodeOf}
 
 abbrev pub double : (pattern : ℕ) → Float
 double b = ofBits binary64 b
@@ -17,6 +24,20 @@ element y = record { answer = accepted; element = y }
 
 abbrev pub value : (pattern : ℕ) → Decoded
 value b = record { answer = accepted; value = double b }
+
+-- f 0, and c = e = 1
+abbrev pub param : (n d T K : ℕ) → PineParam
+param n d T K = record { «norm_bound» = n; dimension = d; «frac_bits» = 0; «chunk_len» = 1; «chunk_len_sq_norm_equal» = 1; «num_wr_tests» = T; «num_wr_successes» = K }
+
+-- 0.0, 1.0 and 4294967296.0
+abbrev pub none : Float
+none = double 0
+
+abbrev pub one : Float
+one = double 0x3ff0_0000_0000_0000
+
+abbrev pub large : Float
+large = double 0x41f0_0000_0000_0000
 
 pub record Table : Type 0 where
   -- -0.25, f 0
@@ -38,3 +59,14 @@ pub record Table : Type 0 where
   -- decode 2 ^ 53 + 1 and 2 ^ 53 + 3, f 0: ties, to 9007199254740992.0 and 9007199254740996.0
   pub tie-down : decodedOf p64 (2 ^ 53 + 1) 0 ≡ value 0x4340_0000_0000_0000
   pub tie-up : decodedOf p64 (2 ^ 53 + 3) 0 ≡ value 0x4340_0000_0000_0002
+  -- n 1, d 4, f 0, T 2, K 2, gradient 1 0 0 0, stream 0x03 0x00; the rows held sevens before
+  pub short : encodeOf Field64 (param 1 4 2 2) (one ∷ none ∷ none ∷ none ∷ []) (3 ∷ 0 ∷ []) (replicate 18 7) (replicate 2 7)
+      ≡ encodeOutcome accepted (1 ∷ 0 ∷ 0 ∷ 0 ∷ 1 ∷ 0 ∷ 0 ∷ 0 ∷ 0 ∷ 0 ∷ 1 ∷ 1 ∷ 0 ∷ 1 ∷ 1 ∷ 1 ∷ 0 ∷ 1 ∷ []) (1 ∷ (p64 - 1) ∷ [])
+  -- the same, gradient 1 1 0 0: 10
+  pub long : encodeOf Field64 (param 1 4 2 2) (one ∷ one ∷ none ∷ none ∷ []) (3 ∷ 0 ∷ []) (replicate 18 7) (replicate 2 7) ≡ encodeOutcome (answer 10 0) (replicate 18 7) (replicate 2 7)
+  -- n 65536, d 1, T 1, K 1, f 0, gradient 4294967296.0, stream 0x01: accepted, v 4294967295, b 1048576
+  pub wraps : encodeOf Field64 (param 65536 1 1 1) (large ∷ []) (1 ∷ []) (replicate 89 7) (replicate 1 7) .answer ≡ accepted
+  pub wraps-v : number p64 (take 33 (drop 1 (encodeOf Field64 (param 65536 1 1 1) (large ∷ []) (1 ∷ []) (replicate 89 7) (replicate 1 7) .measurement))) ≡ 4294967295
+  pub wraps-b : wrTestBound (param 65536 1 1 1) ≡ 1048576
+  -- the same, stream 0x03: 11, 0
+  pub far : encodeOf Field64 (param 65536 1 1 1) (large ∷ []) (3 ∷ []) (replicate 89 7) (replicate 1 7) ≡ encodeOutcome (answer 11 0) (replicate 89 7) (replicate 1 7)

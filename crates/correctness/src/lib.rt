@@ -1,8 +1,16 @@
 // Statements about the definitions themselves, each as what a function ensures that does nothing: so
 // the check asks for their proofs.
+ghost use Rattle.pine.specs.Param.{Field64};
 ghost use Rattle.correctness.specs.Table.{Table};
+ghost use Rattle.correctness.specs.Correctness.{Correctness};
 
 // The worked examples of document 01, "Bench rows", that are marked P.
 pub fn worked_examples()
     ensures { λ _. ⌜ Table ⌝ }
+{}
+
+// Demand 3 of document 01: for every accepted parameter set, every list of calls on aggregates and
+// every list of reports, each cut in two in a way of its own.
+pub fn reports_and_aggregates()
+    ensures { λ _. ⌜ Correctness Field64 ⌝ }
 {}

@@ -159,7 +159,7 @@ quotient-exact b s m e k t h =
     (round-exact b s (m * up e) (down e * 2 ^ k) m (g .0) C (x .few) (below-overflow b (m * up e) (down e * 2 ^ k) (m * 2 ^ g .0) (g .1) under) (g .1))
 
 -- ---- a whole number below 2 ^ 64 as a double: 0, or 1 at least, so that 2 ^ e is no finer than 2 ^ -53
-abbrev Coarse : Float → Type 0
+abbrev pub Coarse : Float → Type 0
 Coarse nan = ⊥
 Coarse (inf s) = ⊥
 Coarse (fin s m e) = (s ≡ false) × (down e ≤ 2 ^ 53)
@@ -186,7 +186,7 @@ end-is : round binary64 false (2 ^ 64) 1 ≡ fin false 1 (pos 64)
 unfolding round
 end-is = refl
 
-size-coarse : (n : ℕ) → n < 2 ^ 64 → Coarse (ofInt binary64 (pos n))
+pub size-coarse : (n : ℕ) → n < 2 ^ 64 → Coarse (ofInt binary64 (pos n))
 unfolding ofInt
 size-coarse zero h = (refl, lit≤ tt)
 size-coarse (suc n) h =
@@ -195,10 +195,10 @@ size-coarse (suc n) h =
     let hi : T (le z (fin false 1 (pos 64))) = subst (λ (x : Float). T (le z x)) end-is (round-mono binary64 (suc n) 1 (2 ^ 64) 1 (pow-pos 0) (pow-pos 0) (mul-le-mul-right 1 (le-of-lt h))) in
     coarse-between z (ofInt-fits binary64 (pos (suc n))) (between (fin false 1 (pos 0)) z (fin false 1 (pos 64)) tt tt lo hi) lo
 
-room : (d k : ℕ) → d ≤ 2 ^ 53 → k ≤ 30 → d * 2 ^ k ≤ 2 ^ low binary64
+pub room : (d k : ℕ) → d ≤ 2 ^ 53 → k ≤ 30 → d * 2 ^ k ≤ 2 ^ low binary64
 room d k h g = le-trans (mul-le-mul h (pow-mono g)) (lit≤ tt)
 
-quotient-of-size : (z : Float) (k : ℕ) → T (fits binary64 z) → Coarse z → k ≤ 30 → HasValue (div binary64 z (power k)) false (num z) (den z * 2 ^ k)
+pub quotient-of-size : (z : Float) (k : ℕ) → T (fits binary64 z) → Coarse z → k ≤ 30 → HasValue (div binary64 z (power k)) false (num z) (den z * 2 ^ k)
 quotient-of-size nan k t c g = absurd c
 quotient-of-size (inf s) k t c g = absurd c
 quotient-of-size (fin s m e) k t c g =

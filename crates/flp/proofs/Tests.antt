@@ -85,3 +85,7 @@ module _ (p : ℕ) (positive : 0 < p) where
         go : (gs : List (List ℕ)) → map (testOf p (addRows p xs ys)) gs ≡ addRows p (map (testOf p xs) gs) (map (testOf p ys) gs)
         go [] = refl
         go (b ∷ bs) = rw (test-add b, go bs)
+
+-- a row that is known to be such results
+pub results-below : (p : ℕ) → 0 < p → (per T : ℕ) (s xs rs : List ℕ) → rs ≡ testsOf p per T s xs → Below p rs
+results-below p h per T s xs rs e = rw e (tests-below p h per T s xs)

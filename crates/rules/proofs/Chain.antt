@@ -1,9 +1,10 @@
 -- Laws of rules in their order: what an answer of 0 has met, and what meets it. Assumes nothing.
-use mathlib.Core.Path.{_≡_, refl}
+use mathlib.Core.Path.{_≡_, refl, sym, ap, _∙_}
 use mathlib.Core.Bool.{Bool, true, false, cond, _||_, true≢false}
 use mathlib.Core.List.{List, [], _∷_}
 use Prim.Native.Nat.{ℕ, zero, suc, _≤_, _<_}
 use native.Mathlib.Omega.{arith}
+use lib.ListN.{take, drop}
 use lib.Dec.{eqb, ltb}
 use borrow.Author.Tests.{eqb-true, eqb-false, ltb-false, eq-eqb, ne-eqb}
 use Rattle.rules.specs.declared.Answer.{Answer}
@@ -78,3 +79,9 @@ inside x m n k h =
     some : (x : ℕ) → (x ≡ 0 → ⊥) → 0 < x
     some zero h = absurd (h refl)
     some (suc x) h = omega arith
+
+-- ---- the first k rules, and the others
+pub split : (k : ℕ) (rules : List Answer) → inOrder rules ≡ first (inOrder (take k rules)) (inOrder (drop k rules))
+split zero rules = refl
+split (suc k) [] = refl
+split (suc k) (a ∷ rest) = ap (first a) (split k rest) ∙ sym (first-assoc a (inOrder (take k rest)) (inOrder (drop k rest)))

@@ -5,8 +5,8 @@ use Rattle.flp.proofs.Alone.{refused, met, room, done}
 use Rattle.flp.proofs.run_wr_tests.Statement.{statement}
 use Rattle.flp.proofs.run_wr_tests.Tie as tie
 
-run-wr-tests-answer-requires : tie.Need-run-wr-tests-answer-requires
-run-wr-tests-answer-requires c κs = search needs
+check-run-wr-tests-requires : tie.Need-check-run-wr-tests-requires
+check-run-wr-tests-requires c κs = search needs
 
 same-length : tie.Need-same-length
 same-length c = search needs
@@ -14,7 +14,7 @@ same-length c = search needs
 returns : tie.Need-returns
 returns c =
     let s = c .before .before .before .before .before .before .before in
-    refused Field64 (s .args .param) (s .args .gradient .now) (s .args .stream .now) (s .args .results .now) _ (c .before .before .run-wr-tests-answer .ensures) (c .if1 .taken)
+    refused Field64 (s .args .param) (s .args .gradient .now) (s .args .stream .now) (s .args .results .now) _ (c .before .before .check-run-wr-tests .ensures) (c .if1 .taken)
 
 add-run-block : tie.Need-add-run-block
 add-run-block c = search needs
@@ -22,7 +22,7 @@ add-run-block c = search needs
 run-block-requires : tie.Need-run-block-requires
 run-block-requires c κs =
     let s = c .before .before .before .before .before .before .before .before in
-    let v = c .before .before .before .run-wr-tests-answer .ensures in
+    let v = c .before .before .before .check-run-wr-tests .ensures in
     let z = c .before .if1 .left in
     (room Field64 (s .args .param) (s .args .gradient .now) (s .args .stream .now) (s .args .results .now) _ v z, met Field64 (s .args .param) (s .args .gradient .now) (s .args .stream .now) (s .args .results .now) _ v z .below)
 
@@ -32,13 +32,13 @@ same-length-2 c = search needs
 returns-2 : tie.Need-returns-2
 returns-2 c =
     let s = c .before .before .before .before .before .before .before .before .before .before .before in
-    done Field64 (s .args .param) (s .args .gradient .now) (s .args .stream .now) (s .args .results .now) _ (c .before .before .before .before .before .before .run-wr-tests-answer .ensures) (c .before .before .before .before .if1 .left) _ (c .before .before .run-block .ensures)
+    done Field64 (s .args .param) (s .args .gradient .now) (s .args .stream .now) (s .args .results .now) _ (c .before .before .before .before .before .before .check-run-wr-tests .ensures) (c .before .before .before .before .if1 .left) _ (c .before .before .run-block .ensures)
 
 pub run-wr-tests-spec : {M : Type 1} → statement M
 run-wr-tests-spec =
     tie.close
     (tie.spec
-    run-wr-tests-answer-requires
+    check-run-wr-tests-requires
     same-length
     returns
     add-run-block

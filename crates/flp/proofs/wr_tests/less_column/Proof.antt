@@ -23,7 +23,7 @@ module _ (low high : List ℕ) (per j : ℕ) (s d : List ℕ) where
 
   module _ (a : List ℕ) (t : ℕ) (inv : Inv a t) (h : t < length a) where
     here : getD a t 0 ≡ getD d t 0
-    here = rw (inv .2) (walked-at done d t (length-less p64 low high per j s d) (omega arith))
+    here = rw (inv .2) (walked-at 0 done d t (length-less p64 low high per j s d) (omega arith))
 
     inside : length d * per ≤ length s → j < per → t * per + j < length s
     inside l m = byte-inside t (length d) per j (length s) (omega arith) m l
@@ -33,7 +33,7 @@ module _ (low high : List ℕ) (per j : ℕ) (s d : List ℕ) where
 
     turn : (r : ℕ) → r ≡ lessOf p64 low high (getD s (t * per + j) 0) (getD a t 0) → Inv (set a t r) (t + 1)
     turn r e =
-        (omega arith, length-set a t r ∙ inv .1, rw (inv .2) (walked-next done d t r (length-less p64 low high per j s d) (omega arith) (e ∙ ap (λ (x : ℕ). lessOf p64 low high (getD s (t * per + j) 0) x) here ∙ sym (getD-less p64 low high per j s d t (omega arith)))))
+        (omega arith, length-set a t r ∙ inv .1, rw (inv .2) (walked-next 0 done d t r (length-less p64 low high per j s d) (omega arith) (e ∙ ap (λ (x : ℕ). lessOf p64 low high (getD s (t * per + j) 0) x) here ∙ sym (getD-less p64 low high per j s d t (omega arith)))))
 
 abbrev Inv-loop : tie.InvT-loop
 Inv-loop low high per j stream results₀ t₀ results t = Inv low high per j stream results₀ results t

@@ -1,4 +1,4 @@
--- `flp::run_wr_tests_answer` meets its contract. Assumes nothing.
+-- `flp::check_run_wr_tests` meets its contract. Assumes nothing.
 use mathlib.Core.Path.{_≡_, sym, ap, _∙_}
 use borrow.Author.Needs.{needs}
 use lib.ListN.{length}
@@ -10,8 +10,8 @@ use Rattle.pine.specs.Record.{pineOf, streamLen}
 use Rattle.pine.specs.Rows.{rowRule}
 use Rattle.pine.proofs.Limits.{param-accepted}
 use Rattle.flp.proofs.Alone.{tests-answer, stopped}
-use Rattle.flp.proofs.run_wr_tests_answer.Statement.{statement}
-use Rattle.flp.proofs.run_wr_tests_answer.Tie as tie
+use Rattle.flp.proofs.check_run_wr_tests.Statement.{statement}
+use Rattle.flp.proofs.check_run_wr_tests.Tie as tie
 
 -- the inputs are accepted
 passed : (c : tie.Else1) → paramAnswer Field64 (c .before .before .before .before .before .before .args .param) ≡ accepted
@@ -65,8 +65,8 @@ returns-2 c =
     (c .before .before .before .before .check-len3 .ensures ∙ ap (λ (r : Pine). rowRule 3 (length (s .args .results .now)) (r .«num_wr_tests»)) (n .new .ensures))
     (c .before .before .before .check-elements .ensures)
 
-pub run-wr-tests-answer-spec : {M : Type 1} → statement M
-run-wr-tests-answer-spec =
+pub check-run-wr-tests-spec : {M : Type 1} → statement M
+check-run-wr-tests-spec =
     tie.close
     (tie.spec
     check-param-requires

@@ -5,10 +5,11 @@ use mathlib.Core.Bool.{cond}
 use mathlib.Core.List.{List, [], _∷_, map}
 use lib.ListN.{getD}
 use lib.Dec.{ltb}
-use lib.IntN.{ℤ, pos, negℤ, _+ℤ_}
+use lib.IntN.{ℤ, pos, negℤ}
 use Rattle.doubles.specs.Doubles.{modP}
 use Rattle.pine.specs.Rows.{addRows}
 use Rattle.correctness.specs.Tally.{FieldRow}
+use Rattle.correctness.specs.Correctness.{sumℤ}
 
 -- a row, cut into two that add up to it, and the whole numbers that its elements may stand for, by their places
 pub record Cut (p d : ℕ) : Type 0 where
@@ -35,10 +36,6 @@ centredNumber p y = cond (ltb ((p - 1) / 2) y) (negℤ (pos (p - y))) (pos y)
 -- element j of the row is its number modulo p
 abbrev pub StandsFor : (p d j : ℕ) → Cut p d → Type 0
 StandsFor p d j c = getD (c .whole) j 0 ≡ modP p (c .number j)
-
-unfoldable pub sumℤ : List ℤ → ℤ
-sumℤ [] = pos 0
-sumℤ (z ∷ zs) = z +ℤ sumℤ zs
 
 -- the sum of the numbers of element j over reports
 abbrev pub numbersSum : {p d : ℕ} → ℕ → List (Cut p d) → ℤ
