@@ -3,8 +3,8 @@
 import itertools
 from typing import Callable, NamedTuple
 
-from common import (HALF, INPUTS, P, TOP, Case, Inputs, Kind, below, damage, draw_small, element, elements, faults, first,
-                    first_rule, lent, near, refused, resized, rule_7, rule_12, vec)
+from common import (BROKEN, HALF, INPUTS, OK, P, TOP, Case, Inputs, Kind, below, changed, combined, damage, draw_small,
+                    element, elements, faults, first, first_rule, lent, near, refused, resized, rule_7, rule_12, vec)
 from singles import TOPS, tie
 
 
@@ -18,7 +18,7 @@ def aggregate(inputs, rows, out=()):
     """The empty aggregate, then each row added to it: what the first refused call says."""
     row = out[0] if out else inputs.d
     want = first(refused(first_rule(*inputs)), rule_7((row, inputs.d)))
-    agg = [0] * inputs.d if want == "ok" else []
+    agg = [0] * inputs.d if want == OK else []
     want = first(want, *(first(rule_7((len(agg), inputs.d), (len(share), inputs.d)), rule_12(agg, share)) for share in rows))
     return Case("aggregate", f"aggregate {inputs} {' '.join([str(len(rows)), *map(vec, rows)])}{lent(out)}", want)
 
@@ -144,24 +144,14 @@ def draw_call(rng, d, many):
 # Fixed cases
 
 PLAIN = Inputs(5, 3, 2, 2, 2, 2, 1)
-OUT_OF_LIMITS = ({"K": 3}, {"n": 0}, {"d": 0}, {"f": 31}, {"c": 0}, {"e": 65537}, {"T": 257})
-
-
-def neighbours(faulty):
-    """Each fault alone, each two of them, and all at once."""
-    for many in (1, 2, len(faulty)):
-        for chosen in itertools.combinations(faulty, many):
-            yield dict(itertools.chain.from_iterable(fault.items() for fault in chosen))
-
-
 ROW = [1, P - 1, 2**53]
 
 
 def limits_adding(kind):
     def limits():
         short, long, over = ROW[:2], ROW + [7], [5, P, TOP]
-        for changes in neighbours((*OUT_OF_LIMITS, {"agg": short}, {"share": long}, {"over": True})):
-            inputs = PLAIN._replace(**{k: v for k, v in changes.items() if k in INPUTS})
+        for changes in combined((*BROKEN, {"agg": short}, {"share": long}, {"over": True})):
+            inputs = changed(PLAIN, changes)
             agg, share = changes.get("agg", ROW), changes.get("share", ROW)
             yield adding(kind, inputs, agg, share)
             if "over" in changes:
@@ -177,8 +167,8 @@ def limits_adding(kind):
 
 
 def limits_aggregate():
-    for changes in neighbours((*OUT_OF_LIMITS, {"out": (2,)}, {"row": 1}, {"over": True})):
-        inputs = PLAIN._replace(**{k: v for k, v in changes.items() if k in INPUTS})
+    for changes in combined((*BROKEN, {"out": (2,)}, {"row": 1}, {"over": True})):
+        inputs = changed(PLAIN, changes)
         rows = [ROW, ROW + [7] if "row" in changes else ROW, [1, TOP, P] if "over" in changes else ROW]
         yield aggregate(inputs, rows, changes.get("out", ()))
         yield aggregate(inputs, rows[::-1], changes.get("out", ()))
@@ -194,8 +184,8 @@ def limits_aggregate():
 
 
 def limits_unshard():
-    for changes in neighbours((*OUT_OF_LIMITS, {"left": ROW[:2]}, {"right": ROW + [7]}, {"out": (4,)}, {"over": True})):
-        inputs = PLAIN._replace(**{k: v for k, v in changes.items() if k in INPUTS})
+    for changes in combined((*BROKEN, {"left": ROW[:2]}, {"right": ROW + [7]}, {"out": (4,)}, {"over": True})):
+        inputs = changed(PLAIN, changes)
         left, right, out = changes.get("left", ROW), changes.get("right", ROW), changes.get("out", ())
         yield unshard(inputs, left, right, out)
         if "over" in changes:
@@ -215,9 +205,33 @@ def limits_unshard():
     yield unshard(PLAIN._replace(d=300), [P - 1] * 300, [1] * 300)
 
 
+def long_rows(d):
+    return [[(k + i) * 0x9e3779b97f4a7c15 % P for i in range(d)] for k in range(3)]
+
+
+def sweep_adding(kind):
+    return lambda: (adding(kind, PLAIN._replace(d=d), *long_rows(d)[:2]) for d in (4095, 4096, 8192))
+
+
+def sweep_aggregate():
+    for d in (4095, 4096, 8192):
+        yield aggregate(PLAIN._replace(d=d), long_rows(d))
+
+
+def sweep_unshard():
+    for d in (4095, 4096, 8192):
+        yield unshard(PLAIN._replace(d=d), *long_rows(d)[:2])
+    for f, total in itertools.product(range(31), SUMS):
+        for left in (0, 1, 2**63, HALF, P - 1):
+            yield unshard(PLAIN._replace(d=1, f=f), [left], [(total - left) % P])
+    for f, length, top, off in itertools.product((0, 7, 30), range(54, 64), TOPS, (-1, 0, 1)):
+        for total in (tie(length, top, off), -tie(length, top, off)):
+            yield unshard(PLAIN._replace(d=2, f=f), [HALF, P - 1], [(total - HALF) % P, (total + 1) % P])
+
+
 KINDS = {
-    "merge": Kind(draw_adding("merge"), limits_adding("merge"), drawn=30),
-    "accumulate": Kind(draw_adding("accumulate"), limits_adding("accumulate"), drawn=30),
-    "aggregate": Kind(draw_aggregate, limits_aggregate, drawn=60),
-    "unshard": Kind(draw_unshard, limits_unshard, drawn=60),
+    "merge": Kind(draw_adding("merge"), limits_adding("merge"), sweep_adding("merge"), drawn=30),
+    "accumulate": Kind(draw_adding("accumulate"), limits_adding("accumulate"), sweep_adding("accumulate"), drawn=30),
+    "aggregate": Kind(draw_aggregate, limits_aggregate, sweep_aggregate, drawn=60),
+    "unshard": Kind(draw_unshard, limits_unshard, sweep_unshard, drawn=60),
 }

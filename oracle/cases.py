@@ -18,10 +18,12 @@ import itertools
 import random
 
 import aggregates
+import circuits
+import reports
 import singles
 from common import BAD, NONE, OK, TOP, Case, below
 
-KINDS = {**singles.KINDS, **aggregates.KINDS}
+KINDS = {**singles.KINDS, **reports.KINDS, **circuits.KINDS, **aggregates.KINDS}
 
 
 # Malformed lines, and lines without an answer
@@ -30,7 +32,7 @@ NONSENSE = ("-1", "-", "x", "1x", "x1", "1.0", "1_0", "1,0", "1e+3", "NaN", "inf
 NOT_DECIMAL = ("a", "ff", "1f", "0x1")
 
 # The word after the seven inputs is a count.
-COUNTED = ("merge", "accumulate", "aggregate", "unshard")
+COUNTED = ("merge", "accumulate", "aggregate", "unshard", "encode", "wrtests")
 
 
 def spoil(rng, case):

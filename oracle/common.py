@@ -3,6 +3,7 @@
 Lengths, and what rules 10 and 11 ask, are worked out here from document 01 and used for refusals only.
 """
 
+import itertools
 import math
 import random
 import struct
@@ -194,6 +195,10 @@ def small_chunk(rng, lengths):
 
 # Rules
 
+# Each of rules 1 to 6 broken by one input, or two for rule 5.
+BROKEN = ({"K": 300}, {"n": 0}, {"d": 0}, {"f": 31}, {"c": 0}, {"e": 65537}, {"T": 257})
+
+
 def refused(rule, place=0):
     return f"refused {rule} {place}" if rule else OK
 
@@ -311,6 +316,18 @@ def resized(rng, row, more):
     other = rng.choice((0, length - 1, length - 1, length + 1, length + 1, length + 4, 2 * length + 1))
     other = other if 0 <= other != length else length + 1
     return (row + [more(rng) for _ in range(other - length)])[:other]
+
+
+def combined(faulty):
+    """The changes for each fault alone, for each two of them, and for all at once."""
+    for many in (1, 2, len(faulty)):
+        for chosen in itertools.combinations(faulty, many):
+            yield dict(itertools.chain.from_iterable(fault.items() for fault in chosen))
+
+
+def changed(inputs, changes):
+    """The inputs with those changes that are of inputs."""
+    return inputs._replace(**{name: x for name, x in changes.items() if name in INPUTS})
 
 
 def faults(rng, names):

@@ -36,6 +36,14 @@ pub fn ok_elements(out: &mut [u8], at: usize, row: &[u64]) -> usize {
     print::text(out, to, b"\n")
 }
 
+pub fn ok_two_rows(out: &mut [u8], at: usize, first: &[u64], second: &[u64]) -> usize {
+    let to = print::text(out, at, b"ok ");
+    let to = print::elements(out, to, first);
+    let to = print::text(out, to, b" ");
+    let to = print::elements(out, to, second);
+    print::text(out, to, b"\n")
+}
+
 pub fn ok_doubles(out: &mut [u8], at: usize, row: &[f64]) -> usize {
     let to = print::text(out, at, b"ok ");
     let to = print::doubles(out, to, row);

@@ -3,10 +3,12 @@ use crate::aggregates;
 use crate::answers::answer_hex;
 use crate::answers::bad;
 use crate::answers::refused;
+use crate::circuits;
 use crate::inputs::read_param;
 use crate::patterns::double_of;
 use crate::patterns::pattern_of;
 use crate::print;
+use crate::reports;
 use crate::words;
 use crate::words::Cursor;
 use pine::record::Lengths;
@@ -87,7 +89,24 @@ fn decode(line: &[u8], c: Cursor, out: &mut [u8], at: usize) -> usize {
     answer_hex(out, at, decoded.answer, pattern_of(decoded.value), 16)
 }
 
-// The commands on aggregates.
+// The commands on a report and on the circuits.
+fn of_reports(name: &[u8], line: &[u8], c: Cursor, out: &mut [u8], at: usize) -> usize {
+    if check::same(name, b"encode") {
+        return reports::encode(line, c, out, at);
+    }
+    if check::same(name, b"wrtests") {
+        return reports::wrtests(line, c, out, at);
+    }
+    if check::same(name, b"valid") {
+        return circuits::valid(line, c, out, at);
+    }
+    if check::same(name, b"valideq") {
+        return circuits::valideq(line, c, out, at);
+    }
+    bad(out, at)
+}
+
+// The commands on aggregates, and those above.
 fn of_aggregates(name: &[u8], line: &[u8], c: Cursor, out: &mut [u8], at: usize) -> usize {
     if check::same(name, b"merge") {
         return aggregates::adding(line, c, out, at, true);
@@ -101,7 +120,7 @@ fn of_aggregates(name: &[u8], line: &[u8], c: Cursor, out: &mut [u8], at: usize)
     if check::same(name, b"unshard") {
         return aggregates::unshard(line, c, out, at);
     }
-    bad(out, at)
+    of_reports(name, line, c, out, at)
 }
 
 // Answers a line.

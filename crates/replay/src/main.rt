@@ -5,9 +5,11 @@ use libc::STDIN_FILENO;
 mod aggregates;
 mod answers;
 mod cases;
+mod circuits;
 mod inputs;
 mod patterns;
 mod print;
+mod reports;
 mod rows;
 mod words;
 
