@@ -1,11 +1,10 @@
--- A decoded number is the double nearest to the whole number over 2 ^ f, a tie to the even one: the rounding of the whole number and the exact division come to one rounding of the quotient.
--- Assumes nothing.
+-- A whole number rounded to a double and then divided by 2 ^ k is the double nearest to the quotient: the two steps come to one rounding. Assumes nothing.
 use mathlib.Core.Path.{_≡_, refl, sym, ap, _∙_, subst}
-use mathlib.Core.Bool.{Bool, true, false, cond, _&&_, true≢false}
+use mathlib.Core.Bool.{Bool, true, false, _&&_, true≢false}
 use Prim.Native.Nat.{ℕ, zero, suc, _+_, _-_, _*_, _/_, _%_, _^_, _≤_, _<_}
-use native.Mathlib.Nat.{le-trans, le-of-eq, lt-of-le-of-lt, lt-irrefl, zero-lt-suc, zero-mul, mul-one, one-mul, mul-comm, mul-assoc, mul-right-comm, mul-left-comm, mul-pos, mul-le-mul-left, mul-le-mul-right, pow-suc, pow-succ', eq-of-mul-eq-mul-right}
+use native.Mathlib.Nat.{le-trans, le-of-eq, lt-of-le-of-lt, lt-irrefl, zero-lt-suc, zero-mul, mul-one, one-mul, mul-assoc, mul-right-comm, mul-left-comm, mul-pos, mul-le-mul-left, mul-le-mul-right, pow-suc, pow-succ', eq-of-mul-eq-mul-right}
 use native.Mathlib.Omega.{arith}
-use lib.IntN.{ℤ, pos, negsuc}
+use lib.IntN.{ℤ, pos, negsuc, natAbs}
 use lib.Dec.{T, ltb, leb, eqb, eqb→eq, lit≤}
 use lib.Pow.{pow-add, pow-pos}
 use lib.Ieee.{Float, nan, inf, fin, Format, binary64, prec, emax, low, up, down, size, round, neg, div, ofInt, fits}
@@ -13,7 +12,7 @@ use lib.Ieee.Fits.{round-fits, div-fits, ofInt-fits, up-pos, down-pos, and-l}
 use lib.Ieee.Exact.{HasValue}
 use lib.Ieee.Scale.{round-same, grid, overflow, finite, round-val, round-under, grid-scale, normal-of-fraction}
 use lib.Ieee.Positive.{num, den, den-pos, value→cross}
-use Rattle.doubles.specs.Doubles.{power, centred, decoded}
+use Rattle.doubles.specs.Doubles.{power}
 use Rattle.doubles.proofs.Laws.{round-neg, div-power, Coarse, size-coarse, room, quotient-of-size}
 
 -- ---- a value is written in one way
@@ -139,7 +138,7 @@ as-round : (n : ℕ) → ofInt binary64 (pos n) ≡ round binary64 false n 1
 unfolding ofInt
 as-round n = refl
 
-pub quotient-rounds : (n k : ℕ) → n < 2 ^ 64 → k ≤ 30 → div binary64 (ofInt binary64 (pos n)) (power k) ≡ round binary64 false n (2 ^ k)
+quotient-rounds : (n k : ℕ) → n < 2 ^ 64 → k ≤ 30 → div binary64 (ofInt binary64 (pos n)) (power k) ≡ round binary64 false n (2 ^ k)
 quotient-rounds zero k l h =
     ap (λ (y : Float). div binary64 y (power k)) zero-is ∙ div-power binary64 false 0 (pos 0) k ∙ round-same binary64 false (0 * 1) (1 * 2 ^ k) 0 (2 ^ k) (mul-pos (pow-pos 0) (pow-pos k)) (pow-pos k) (zero-mul (2 ^ k) ∙ sym (zero-mul (1 * 2 ^ k)))
 quotient-rounds (suc n) k l h =
@@ -158,12 +157,17 @@ quotient-of-neg (fin true m e) k c = absurd (true≢false (c .0))
 quotient-of-neg (fin false m e) k c =
     div-power binary64 true m e k ∙ round-neg binary64 (m * up e) (down e * 2 ^ k) ∙ ap neg (sym (div-power binary64 false m e k))
 
--- THE DECODED NUMBER IS THE DOUBLE NEAREST TO THE CENTRED NUMBER OVER 2 ^ f
-pub decoded-rounds : (p y f : ℕ) → y < 2 ^ 64 → p - y < 2 ^ 64 → f ≤ 30
-    → decoded p y f ≡ cond (ltb ((p - 1) / 2) y) (round binary64 true (p - y) (2 ^ f)) (round binary64 false y (2 ^ f))
-unfolding decoded centred
-decoded-rounds p y f l m h = go (ltb ((p - 1) / 2) y)
-  where
-    go : (t : Bool) → div binary64 (cond t (neg (ofInt binary64 (pos (p - y)))) (ofInt binary64 (pos y))) (power f) ≡ cond t (round binary64 true (p - y) (2 ^ f)) (round binary64 false y (2 ^ f))
-    go true = quotient-of-neg (ofInt binary64 (pos (p - y))) f (size-coarse (p - y) m) ∙ ap neg (quotient-rounds (p - y) f m h) ∙ sym (round-neg binary64 (p - y) (2 ^ f))
-    go false = quotient-rounds y f l h
+as-neg : (n : ℕ) → ofInt binary64 (negsuc n) ≡ neg (ofInt binary64 (pos (suc n)))
+unfolding ofInt
+as-neg n = round-neg binary64 (suc n) 1
+
+-- the double nearest to z / 2 ^ k, a tie to the even one
+abbrev pub roundedOver : (k : ℕ) → ℤ → Float
+roundedOver k (pos n) = round binary64 false n (2 ^ k)
+roundedOver k (negsuc n) = round binary64 true (suc n) (2 ^ k)
+
+-- THE DOUBLE NEAREST TO z, DIVIDED BY 2 ^ k, IS THE DOUBLE NEAREST TO z / 2 ^ k
+pub rounded-once : (z : ℤ) (k : ℕ) → natAbs z < 2 ^ 64 → k ≤ 30 → div binary64 (ofInt binary64 z) (power k) ≡ roundedOver k z
+rounded-once (pos n) k l h = quotient-rounds n k l h
+rounded-once (negsuc n) k l h =
+    ap (λ (x : Float). div binary64 x (power k)) (as-neg n) ∙ quotient-of-neg (ofInt binary64 (pos (suc n))) k (size-coarse (suc n) l) ∙ ap neg (quotient-rounds (suc n) k l h) ∙ sym (round-neg binary64 (suc n) (2 ^ k))

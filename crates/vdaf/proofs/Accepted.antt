@@ -1,20 +1,19 @@
 -- What an accepted call has met, what makes a call accept, and that no answer turns on the elements of an aggregate. Assumes nothing.
-use mathlib.Core.Path.{_≡_, refl, sym, ap, _∙_}
-use mathlib.Core.List.{List, [], _∷_, _++_}
+use mathlib.Core.Path.{_≡_, sym, _∙_}
+use mathlib.Core.List.{List, _++_}
 use Prim.Native.Nat.{ℕ}
 use lib.ListN.{length, replicate}
 use lib.Ieee.{Float}
-use Rattle.rules.specs.declared.Answer.{Answer}
-use Rattle.rules.specs.Rules.{accepted, first, inOrder}
-use Rattle.rules.proofs.Chain.{passed, accepts}
+use Rattle.rules.specs.Rules.{accepted}
+use Rattle.rules.proofs.Chain.{passed}
 use Rattle.pine.specs.declared.PineParam.{PineParam}
 use Rattle.pine.specs.Param.{Field, paramAnswer}
-use Rattle.pine.specs.Rows.{rowRule, elementsFrom, elementsRule, Below, addRows}
-use Rattle.pine.specs.Outcome.{Outcome, outcome}
+use Rattle.pine.specs.Rows.{rowRule, elementsRule, Below, addRows}
+use Rattle.pine.specs.Outcome.{outcome}
 use Rattle.pine.proofs.Limits.{param-accepted}
 use Rattle.pine.proofs.Lengths.{right-row, row-right}
 use Rattle.pine.proofs.Elements.{below-append, below-parts, elements-joined, right-elements, elements-below}
-use Rattle.vdaf.specs.Aggregates.{emptyRules, emptyAnswer, emptyOf, accumulateRules, accumulateAnswer, accumulateOf, UnshardOutcome, unshardOutcome, decodedSums, unshardRules, unshardAnswer, unshardOf}
+use Rattle.vdaf.specs.Aggregates.{emptyRules, emptyAnswer, emptyOf, accumulateRules, accumulateAnswer, accumulateOf, unshardOutcome, decodedSums, unshardRules, unshardAnswer, unshardOf}
 
 -- accepted inputs, and two rows of d field numbers
 pub record TwoRows (F : Field) (i : PineParam) (left right : List ℕ) : Type 0 where
@@ -23,6 +22,19 @@ pub record TwoRows (F : Field) (i : PineParam) (left right : List ℕ) : Type 0 
   pub right-long : length right ≡ i .dimension
   pub left-below : Below (F .p) left
   pub right-below : Below (F .p) right
+
+-- from the answers of rules 1 to 6, 7 and 12
+two-rows : (F : Field) (i : PineParam) (left right : List ℕ) → paramAnswer F i .number ≡ 0 → rowRule 1 (length left) (i .dimension) .number ≡ 0 → rowRule 2 (length right) (i .dimension) .number ≡ 0
+    → elementsRule (F .p) (left ++ right) .number ≡ 0 → TwoRows F i left right
+two-rows F i left right h l r e =
+    let b = below-parts (F .p) left right (elements-below (F .p) 0 (left ++ right) e) in
+    record {
+      param = param-accepted F i h;
+      left-long = row-right 1 (length left) (i .dimension) l;
+      right-long = row-right 2 (length right) (i .dimension) r;
+      left-below = b .0;
+      right-below = b .1;
+    }
 
 module _ (F : Field) (i : PineParam) where
   -- ---- the aggregate of no shares
@@ -45,14 +57,7 @@ module _ (F : Field) (i : PineParam) where
     unfolding accumulateAnswer
     added h =
         let r = passed (accumulateRules F i agg share) h in
-        let b = below-parts (F .p) agg share (elements-below (F .p) 0 (agg ++ share) (r .1 .1 .1 .0)) in
-        record {
-          param = param-accepted F i (r .0);
-          left-long = row-right 1 (length agg) (i .dimension) (r .1 .0);
-          right-long = row-right 2 (length share) (i .dimension) (r .1 .1 .0);
-          left-below = b .0;
-          right-below = b .1;
-        }
+        two-rows F i agg share (r .0) (r .1 .0) (r .1 .1 .0) (r .1 .1 .1 .0)
 
     pub adds : TwoRows F i agg share → accumulateOf F i agg share ≡ outcome accepted (addRows (F .p) agg share)
     unfolding accumulateOf accumulateAnswer
@@ -66,16 +71,7 @@ module _ (F : Field) (i : PineParam) where
     unfolding unshardAnswer
     unsharded h =
         let r = passed (unshardRules F i left right row) h in
-        let b = below-parts (F .p) left right (elements-below (F .p) 0 (left ++ right) (r .1 .1 .1 .1 .0)) in (
-          record {
-            param = param-accepted F i (r .0);
-            left-long = row-right 1 (length left) (i .dimension) (r .1 .0);
-            right-long = row-right 2 (length right) (i .dimension) (r .1 .1 .0);
-            left-below = b .0;
-            right-below = b .1;
-          },
-          row-right 3 (length row) (i .dimension) (r .1 .1 .1 .0),
-        )
+        (two-rows F i left right (r .0) (r .1 .0) (r .1 .1 .0) (r .1 .1 .1 .1 .0), row-right 3 (length row) (i .dimension) (r .1 .1 .1 .0))
 
     pub unshards : TwoRows F i left right → length row ≡ i .dimension → unshardOf F i left right row ≡ unshardOutcome accepted (decodedSums (F .p) (i .«frac_bits») left right)
     unfolding unshardOf unshardAnswer

@@ -1,21 +1,21 @@
 -- `vdaf::add_rows` meets its contract. Assumes nothing.
 use mathlib.Core.Path.{_≡_, refl, sym, ap, _∙_}
 use mathlib.Core.List.{List}
-use Prim.Native.Nat.{ℕ, _+_, _-_, _≤_, _<_}
+use Prim.Native.Nat.{ℕ, _+_, _-_, _<_}
 use native.Mathlib.Omega.{arith}
 use borrow.Author.Needs.{needs}
-use lib.ListN.{length, getD, set, length-set}
+use lib.ListN.{length, getD, set}
 use Rattle.field64.specs.Field.{p64, addMod}
 use Rattle.pine.specs.Rows.{Below, addRows}
 use Rattle.pine.proofs.Elements.{below-at}
 use Rattle.pine.proofs.Added.{length-addRows, getD-addRows}
-use Rattle.pine.proofs.Walk.{walked, walked-at, walked-next, walked-end}
+use Rattle.pine.proofs.Walk.{walked-at, walked-end, Walking, walking-next}
 use Rattle.vdaf.proofs.add_rows.Statement.{statement}
 use Rattle.vdaf.proofs.add_rows.Tie as tie
 
 -- the invariant: the row is the sums up to i, and as it was from there
 abbrev Inv : (d s a : List ℕ) (i : ℕ) → Type 0
-Inv d s a i = (i ≤ length d) × (length a ≡ length d) × (a ≡ walked (addRows p64 d s) d i)
+Inv d s a i = Walking (addRows p64 d s) d a i
 
 module _ (d s a : List ℕ) (i : ℕ) (pre : (length d ≡ length s) × (Below p64 d × Below p64 s)) (inv : Inv d s a i) (h : i < length a) where
   same : length (addRows p64 d s) ≡ length d
@@ -28,8 +28,7 @@ module _ (d s a : List ℕ) (i : ℕ) (pre : (length d ≡ length s) × (Below p
   reads-below = (rw here (below-at p64 d (pre .1 .0) i (omega arith)), below-at p64 s (pre .1 .1) i (omega arith))
 
   turn : (r : ℕ) → r ≡ addMod p64 (getD a i 0) (getD s i 0) → Inv d s (set a i r) (i + 1)
-  turn r e =
-      (omega arith, length-set a i r ∙ inv .1, rw (inv .2) (walked-next 0 (addRows p64 d s) d i r same (omega arith) (e ∙ ap (λ (x : ℕ). addMod p64 x (getD s i 0)) here ∙ sym (getD-addRows p64 d s i (pre .0) (omega arith)))))
+  turn r e = walking-next 0 (addRows p64 d s) d a i r same inv h (e ∙ ap (λ (x : ℕ). addMod p64 x (getD s i 0)) here ∙ sym (getD-addRows p64 d s i (pre .0) (omega arith)))
 
 abbrev Inv-loop : tie.InvT-loop
 Inv-loop agg₀ share i₀ agg i = Inv agg₀ share agg i

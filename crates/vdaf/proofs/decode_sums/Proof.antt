@@ -1,17 +1,15 @@
 -- `vdaf::decode_sums` meets its contract. Assumes nothing.
 use mathlib.Core.Path.{_≡_, refl, sym, _∙_}
 use mathlib.Core.List.{List}
-use Prim.Native.Nat.{ℕ, _+_, _-_, _≤_, _<_}
+use Prim.Native.Nat.{ℕ, _+_, _-_, _<_}
 use native.Mathlib.Omega.{arith}
-use native.Mathlib.Nat.{mod-lt}
 use borrow.Author.Needs.{needs}
-use lib.ListN.{length, getD, set, length-set}
+use lib.ListN.{length, getD, set}
 use lib.Ieee.{Float}
 use Rattle.field64.specs.Field.{p64, addMod}
 use Rattle.doubles.specs.Doubles.{plusZero, decoded}
-use Rattle.pine.specs.Rows.{Below}
 use Rattle.pine.proofs.Elements.{below-at}
-use Rattle.pine.proofs.Walk.{walked, walked-next, walked-end}
+use Rattle.pine.proofs.Walk.{walked-end, Walking, walking-next}
 use Rattle.vdaf.specs.Aggregates.{decodedSums}
 use Rattle.vdaf.proofs.Decoded.{length-decodedSums, getD-decodedSums}
 use Rattle.vdaf.proofs.decode_sums.Statement.{statement}
@@ -19,19 +17,19 @@ use Rattle.vdaf.proofs.decode_sums.Tie as tie
 
 -- the invariant: the row is the decoded sums up to i, and as it was from there
 abbrev Inv : (f : ℕ) (l r : List ℕ) (d a : List Float) (i : ℕ) → Type 0
-Inv f l r d a i = (i ≤ length d) × (length a ≡ length d) × (a ≡ walked (decodedSums p64 f l r) d i)
+Inv f l r d a i = Walking (decodedSums p64 f l r) d a i
 
 module _ (f : ℕ) (l r : List ℕ) (d : List Float) (same : (length l ≡ length d) × (length r ≡ length d)) where
   rows-same : length l ≡ length r
   rows-same = same .0 ∙ sym (same .1)
 
-  pub long : length (decodedSums p64 f l r) ≡ length d
+  long : length (decodedSums p64 f l r) ≡ length d
   long = length-decodedSums p64 f l r rows-same ∙ same .0
 
-  pub turn : (a : List Float) (i : ℕ) → Inv f l r d a i → i < length a → (s : ℕ) (y : Float) → s ≡ addMod p64 (getD l i 0) (getD r i 0) → y ≡ decoded p64 s f → Inv f l r d (set a i y) (i + 1)
+  turn : (a : List Float) (i : ℕ) → Inv f l r d a i → i < length a → (s : ℕ) (y : Float) → s ≡ addMod p64 (getD l i 0) (getD r i 0) → y ≡ decoded p64 s f → Inv f l r d (set a i y) (i + 1)
   turn a i inv h s y e g =
       let k : i < length l = omega (arith, same .0) in
-      (omega arith, length-set a i y ∙ inv .1, rw (inv .2) (walked-next plusZero (decodedSums p64 f l r) d i y long (omega arith) (g ∙ rw e (sym (getD-decodedSums p64 f l r rows-same plusZero i k)))))
+      walking-next plusZero (decodedSums p64 f l r) d a i y long inv h (g ∙ rw e (sym (getD-decodedSums p64 f l r rows-same plusZero i k)))
 
 abbrev Inv-loop : tie.InvT-loop
 Inv-loop left right scale frac-bits decoded₀ i₀ decoded i = Inv frac-bits left right decoded₀ decoded i

@@ -1,24 +1,16 @@
 -- `pine::rows::zero_row` meets its contract. Assumes nothing.
-use mathlib.Core.Path.{_≡_, refl, sym, _∙_}
-use mathlib.Core.List.{List}
-use Prim.Native.Nat.{ℕ, _+_, _-_, _≤_, _<_}
+use mathlib.Core.Path.{refl, sym, _∙_}
+use Prim.Native.Nat.{ℕ, _-_}
 use native.Mathlib.Omega.{arith}
 use borrow.Author.Needs.{needs}
-use lib.ListN.{length, replicate, set, length-set, length-replicate, getD-replicate}
-use Rattle.pine.proofs.Walk.{walked, walked-next, walked-end}
+use lib.ListN.{length, replicate, length-replicate, getD-replicate}
+use Rattle.pine.proofs.Walk.{Walking, walking-next, walked-end}
 use Rattle.pine.proofs.rows.zero_row.Statement.{statement}
 use Rattle.pine.proofs.rows.zero_row.Tie as tie
 
 -- the invariant: the row is zeros up to i, and as it was from there
-abbrev Inv : (d a : List ℕ) (i : ℕ) → Type 0
-Inv d a i = (i ≤ length d) × (length a ≡ length d) × (a ≡ walked (replicate (length d) 0) d i)
-
-turn : (d a : List ℕ) (i : ℕ) → Inv d a i → i < length a → Inv d (set a i 0) (i + 1)
-turn d a i inv h =
-    (omega arith, length-set a i 0 ∙ inv .1, rw (inv .2) (walked-next 0 (replicate (length d) 0) d i 0 (length-replicate {A = ℕ} (length d) 0) (omega arith) (sym (getD-replicate {A = ℕ} (length d) i 0 0 (omega arith)))))
-
 abbrev Inv-loop : tie.InvT-loop
-Inv-loop row₀ i₀ row i = Inv row₀ row i
+Inv-loop row₀ i₀ row i = Walking (replicate (length row₀) 0) row₀ row i
 
 abbrev μ-loop : tie.MeasureT-loop
 μ-loop row₀ i₀ row i = length row₀ - i
@@ -41,7 +33,8 @@ loop-less c = search needs
 loop-again : tie.Need-loop-again Inv-loop μ-loop
 loop-again c =
     let l = c .before in
-    turn (l .before .args .row .now) (l .loop .row) (l .loop .i) (l .loop .inv) (omega arith)
+    let d = l .before .args .row .now in
+    walking-next 0 (replicate (length d) 0) d (l .loop .row) (l .loop .i) 0 (length-replicate {A = ℕ} (length d) 0) (l .loop .inv) (omega arith) (sym (getD-replicate {A = ℕ} (length d) (l .loop .i) 0 0 (omega arith)))
 
 same-length : tie.Need-same-length Inv-loop μ-loop
 same-length c = c .before .loop .inv .1

@@ -1,0 +1,308 @@
+// The worked examples of document 01, refusals that leave rows as they were, and reports cut in two.
+use jihmeto_pine::*;
+
+const P: u64 = FIELD_MODULUS;
+
+fn param(n: u64, d: u64, f: u64, t: u64, k: u64) -> PineParam {
+    PineParam {
+        norm_bound: n,
+        dimension: d,
+        frac_bits: f,
+        chunk_len: 1,
+        chunk_len_sq_norm_equal: 1,
+        num_wr_tests: t,
+        num_wr_successes: k,
+    }
+}
+
+fn refused<T: std::fmt::Debug + PartialEq>(given: Result<T, Error>, rule: Rule, place: u64) {
+    assert_eq!(given, Err(Error { rule, place }));
+}
+
+#[test]
+fn coordinates() {
+    assert_eq!(f64_to_field(-0.25, 0), Ok(18446744069414584320));
+    assert_eq!(f64_to_field(0.75, 0), Ok(0));
+    assert_eq!(f64_to_field(0.75, 2), Ok(3));
+    assert_eq!(f64_to_field(-0.3, 2), Ok(P - 2));
+    for f in 0..=30 {
+        assert_eq!(f64_to_field(-0.0, f), Ok(0));
+        assert_eq!(f64_to_field(f64::MIN_POSITIVE, f), Ok(0));
+        refused(
+            f64_to_field(f64::MIN_POSITIVE / 2.0, f),
+            Rule::Coordinate,
+            0,
+        );
+    }
+    assert_eq!(f64_to_field(1e300, 0), Ok(4294967294));
+    refused(f64_to_field(f64::NAN, 31), Rule::FracBits, 0);
+}
+
+#[test]
+fn decoded_numbers() {
+    let value = |y, f| field_to_f64(y, f).unwrap();
+    assert_eq!(value(P - 1, 2), -0.25);
+    assert_eq!(value((P - 1) / 2, 0), 9223372034707292160.0);
+    assert_eq!(value(P.div_ceil(2), 0), -9223372034707292160.0);
+    assert_eq!(value((1 << 53) + 1, 0), 9007199254740992.0);
+    assert_eq!(value((1 << 53) + 3, 0), 9007199254740996.0);
+    assert_eq!(value(0, 7).to_bits(), 0);
+    refused(field_to_f64(P, 0), Rule::Element, 0);
+    refused(field_to_f64(0, 31), Rule::FracBits, 0);
+}
+
+#[test]
+fn inputs() {
+    assert_eq!(check_param(param(3037000499, 1, 0, 1, 1)), Ok(()));
+    refused(
+        check_param(param(3037000500, 1, 0, 1, 1)),
+        Rule::NormBound,
+        0,
+    );
+    refused(check_param(param(0, 0, 31, 0, 1)), Rule::NumWrSuccesses, 0);
+    refused(derive(param(1, 65537, 0, 1, 1)), Rule::Dimension, 0);
+    refused(derive(param(1, 1, 31, 1, 1)), Rule::FracBits, 0);
+    refused(
+        derive(PineParam {
+            chunk_len: 0,
+            ..param(1, 1, 0, 1, 1)
+        }),
+        Rule::ChunkLen,
+        0,
+    );
+    refused(derive(param(1, 1, 0, 257, 1)), Rule::NumWrTests, 0);
+    let derived = derive(param(1, 4, 0, 2, 2)).unwrap();
+    assert_eq!(derived.pine.sq_norm_bits, 1);
+    assert_eq!(derived.pine.wr_test_bound, 16);
+    assert_eq!(derived.pine.wr_test_bits, 5);
+    assert_eq!(derived.pine.encoded_input_len, 18);
+    assert_eq!(derived.flp.input_len, 20);
+    assert_eq!(derived.flp.joint_rand_len, JOINT_RAND_LEN as u64);
+    assert_eq!(derived.stream_len, 2);
+}
+
+#[test]
+fn encoding() {
+    let small = param(1, 4, 0, 2, 2);
+    let (mut measurement, mut results) = ([7; 18], [7; 2]);
+    let mut encode = |gradient: &[f64]| {
+        let answer =
+            encode_with_wr_joint_rand(small, gradient, &[3, 0], &mut measurement, &mut results);
+        (answer, measurement, results)
+    };
+    // refused, with the rows as they were
+    let untouched = ([7; 18], [7; 2]);
+    for (gradient, rule, place) in [
+        (&[1.0, 1.0, 0.0, 0.0][..], Rule::SqNorm, 0),
+        (&[f64::NAN][..], Rule::Coordinate, 0),
+        (&[1.0, f64::INFINITY, 0.0, 0.0][..], Rule::Coordinate, 1),
+        (&[1.0][..], Rule::GradientLen, 0),
+    ] {
+        let (answer, m, r) = encode(gradient);
+        refused(answer, rule, place);
+        assert_eq!((m, r), untouched);
+    }
+    let (answer, m, r) = encode(&[1.0, 0.0, 0.0, 0.0]);
+    assert_eq!(answer, Ok(()));
+    assert_eq!(m, [1, 0, 0, 0, 1, 0, 0, 0, 0, 0, 1, 1, 0, 1, 1, 1, 0, 1]);
+    assert_eq!(r, [1, P - 1]);
+}
+
+#[test]
+fn a_norm_that_wraps() {
+    let wide = param(65536, 1, 0, 1, 1);
+    let derived = derive(wide).unwrap();
+    assert_eq!(derived.pine.wr_test_bound, 1048576);
+    let mut measurement = vec![0; derived.pine.encoded_input_len as usize];
+    let mut results = [0];
+    let gradient = [4294967296.0];
+    assert_eq!(
+        encode_with_wr_joint_rand(wide, &gradient, &[1], &mut measurement, &mut results),
+        Ok(())
+    );
+    let v: u64 = (0..derived.pine.sq_norm_bits as usize)
+        .map(|i| measurement[1 + i] << i)
+        .sum();
+    assert_eq!(v, 4294967295);
+    refused(
+        encode_with_wr_joint_rand(wide, &gradient, &[3], &mut measurement, &mut results),
+        Rule::WrTest,
+        0,
+    );
+}
+
+#[test]
+fn rows_of_other_lengths() {
+    let p = param(1, 4, 0, 2, 2);
+    let (four, two) = ([7u64; 4], [7u64; 2]);
+    let mut row = [7u64; 4];
+    let mut measurement = [7u64; 18];
+    let mut results = [7u64; 2];
+    let mut decoded = [7.0; 4];
+    refused(empty_aggregate(p, &mut row[..3]), Rule::RowLen, 1);
+    refused(accumulate(p, &mut row[..3], &four), Rule::RowLen, 1);
+    refused(accumulate(p, &mut row, &two), Rule::RowLen, 2);
+    refused(merge(p, &mut row, &[]), Rule::RowLen, 2);
+    refused(unshard(p, &four, &four, &mut decoded[..1]), Rule::RowLen, 3);
+    refused(run_wr_tests(p, &four, &[0], &mut results), Rule::RowLen, 2);
+    refused(
+        encode_with_wr_joint_rand(p, &[], &[0, 0], &mut measurement[1..], &mut results),
+        Rule::RowLen,
+        3,
+    );
+    refused(valid(p, 0, &[P; 20], &[P; 4]), Rule::RowLen, 2);
+    refused(valid_sq_norm_equal(p, 0, &four), Rule::RowLen, 1);
+    refused(gradient_part(p, &four), Rule::RowLen, 1);
+    assert_eq!(
+        (row, measurement, results, decoded),
+        (four, [7; 18], two, [7.0; 4])
+    );
+}
+
+#[test]
+fn elements_and_shares() {
+    let p = param(1, 4, 0, 2, 2);
+    let mut full = [7u64; 20];
+    refused(valid(p, 0, &[P; 20], &[P; 3]), Rule::NumShares, 0);
+    refused(valid(p, 256, &full, &[1; 3]), Rule::NumShares, 0);
+    refused(valid(p, 1, &full, &[1, P, 1]), Rule::Element, 21);
+    full[19] = P;
+    refused(valid(p, 1, &full, &[1; 3]), Rule::Element, 19);
+    refused(valid_sq_norm_equal(p, 1, &full), Rule::Element, 19);
+    refused(checked_part(p, &full), Rule::Element, 19);
+    refused(results_part(p, &full), Rule::Element, 19);
+    let mut row = [7, 7, 7, u64::MAX];
+    refused(accumulate(p, &mut row, &[P; 4]), Rule::Element, 3);
+    assert_eq!(row, [7, 7, 7, u64::MAX]);
+    row[3] = 7;
+    refused(merge(p, &mut row, &[0, P, 0, 0]), Rule::Element, 5);
+    assert_eq!(row, [7; 4]);
+    let mut decoded = [7.0; 4];
+    refused(
+        unshard(p, &row, &[0, 0, P, P], &mut decoded),
+        Rule::Element,
+        6,
+    );
+    assert_eq!(decoded, [7.0; 4]);
+}
+
+#[test]
+fn errors_say_what_is_wrong() {
+    let error: Box<dyn std::error::Error> =
+        Box::new(check_param(param(0, 1, 0, 1, 1)).unwrap_err());
+    assert_eq!(
+        error.to_string(),
+        "norm_bound is not from 1 to 3037000499 (rule 2)"
+    );
+    let error = field_to_f64(P, 0).unwrap_err();
+    assert_eq!(
+        error.to_string(),
+        "element 0 of the rows is not below p (rule 12)"
+    );
+    assert_eq!(error.rule.number(), 12);
+}
+
+// xorshift: any numbers will do for a test
+struct Draw(u64);
+
+impl Draw {
+    fn next(&mut self) -> u64 {
+        self.0 ^= self.0 << 13;
+        self.0 ^= self.0 >> 7;
+        self.0 ^= self.0 << 17;
+        self.0
+    }
+
+    fn element(&mut self) -> u64 {
+        self.next() % P
+    }
+}
+
+fn add(a: u64, b: u64) -> u64 {
+    ((a as u128 + b as u128) % P as u128) as u64
+}
+
+#[test]
+fn reports_cut_in_two() {
+    let mut draw = Draw(88172645463325252);
+    for d in 1..40 {
+        let p = PineParam {
+            chunk_len: 1 + draw.next() % 9,
+            chunk_len_sq_norm_equal: 1 + draw.next() % 9,
+            ..param(1 << 20, d, 10, 20, 15)
+        };
+        let d = d as usize;
+        let derived = derive(p).unwrap();
+        let encoded_len = derived.pine.encoded_input_len as usize;
+        let mut aggregates = [vec![5; d], vec![5; d]];
+        for aggregate in &mut aggregates {
+            empty_aggregate(p, aggregate).unwrap();
+        }
+        let mut sums = vec![0.0; d];
+        let mut reports = 0;
+        while reports < 5 {
+            let gradient: Vec<f64> = (0..d)
+                .map(|_| (draw.next() % 200_001) as f64 / 1024.0 - 97.0)
+                .collect();
+            let stream: Vec<u8> = (0..derived.stream_len).map(|_| draw.next() as u8).collect();
+            let mut full = vec![5; derived.pine.input_len as usize];
+            let (measurement, results) = full.split_at_mut(encoded_len);
+            match encode_with_wr_joint_rand(p, &gradient, &stream, measurement, results) {
+                Err(Error {
+                    rule: Rule::WrTest, ..
+                }) => continue,
+                other => other.unwrap(),
+            }
+            let mut shares = [full.clone(), full.clone()];
+            for i in 0..encoded_len {
+                shares[0][i] = draw.element();
+                shares[1][i] = add(full[i], P - shares[0][i]);
+            }
+            for share in &mut shares {
+                let (cut, tests) = share.split_at_mut(encoded_len);
+                run_wr_tests(p, &cut[..d], &stream, tests).unwrap();
+            }
+            let sum: Vec<u64> = (0..full.len())
+                .map(|i| add(shares[0][i], shares[1][i]))
+                .collect();
+            assert_eq!(sum, full);
+            let joint_rand = [draw.element(), draw.element(), draw.element()];
+            let given = valid(p, 1, &sum, &joint_rand).unwrap();
+            assert_eq!(
+                (given.value, given.gadget_calls),
+                (0, derived.pine.gadget_calls)
+            );
+            let given = valid_sq_norm_equal(p, 1, &sum).unwrap();
+            assert_eq!(
+                (given.value, given.gadget_calls),
+                (0, derived.pine.gadget_calls_sq_norm_equal)
+            );
+            let parts = [
+                gradient_part(p, &sum).unwrap(),
+                checked_part(p, &sum).unwrap(),
+                results_part(p, &sum).unwrap(),
+            ];
+            assert_eq!(parts.concat(), sum);
+            assert_eq!(parts[0].len(), d);
+            assert_eq!(parts[2].len(), 20);
+            // a wrong bit is noticed
+            let mut wrong = sum.clone();
+            wrong[d] = add(wrong[d], 1);
+            assert_ne!(valid(p, 1, &wrong, &joint_rand).unwrap().value, 0);
+            assert_ne!(valid_sq_norm_equal(p, 1, &wrong).unwrap().value, 0);
+            for (aggregate, share) in aggregates.iter_mut().zip(&shares) {
+                accumulate(p, aggregate, gradient_part(p, share).unwrap()).unwrap();
+            }
+            for (sum, x) in sums.iter_mut().zip(&gradient) {
+                *sum += x;
+            }
+            reports += 1;
+        }
+        // merging an aggregate of no shares changes nothing
+        let nothing = vec![0; d];
+        merge(p, &mut aggregates[0], &nothing).unwrap();
+        let mut decoded = vec![f64::NAN; d];
+        unshard(p, &aggregates[0], &aggregates[1], &mut decoded).unwrap();
+        assert_eq!(decoded, sums);
+    }
+}

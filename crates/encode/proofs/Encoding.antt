@@ -1,0 +1,182 @@
+-- The cases of encoding: refused by rules 1 to 9, or by 10 or 11, or accepted. Assumes nothing.
+use mathlib.Core.Path.{_≡_, refl, sym, ap, _∙_}
+use mathlib.Core.Bool.{Bool, true, false, cond}
+use mathlib.Core.List.{List, [], _∷_, _++_}
+use Prim.Native.Nat.{ℕ, suc, _+_, _*_, _/_, _≤_, _<_}
+use native.Mathlib.Nat.{le-of-eq}
+use native.Mathlib.Omega.{arith}
+use lib.ListN.{length, take, drop, replicate}
+use lib.Seq.{length-take-le}
+use lib.Dec.{eqb}
+use lib.Ieee.{Float}
+use borrow.Author.Tests.{eq-eqb, ne-eqb, eqb-true}
+use Rattle.rules.specs.declared.Answer.{Answer}
+use Rattle.rules.specs.Rules.{answer, accepted, first, inOrder}
+use Rattle.rules.proofs.Chain.{passed, accepted-whole, so, first-refused, first-passed, split}
+use Rattle.field64.specs.Field.{p64, subMod}
+use Rattle.doubles.specs.Doubles.{power}
+use Rattle.pine.specs.declared.PineParam.{PineParam}
+use Rattle.pine.specs.declared.record.Pine.{Pine}
+use Rattle.pine.specs.Param.{Field, Field64, paramAnswer}
+use Rattle.pine.specs.Record.{sqNormBound, sqNormBits, wrTestBound, wrTestBits, bitCheckedLen, encodedInputLen, bytesPerTest, streamLen, pineOf}
+use Rattle.pine.specs.Rows.{rowRule}
+use Rattle.pine.proofs.Limits.{limits, param-accepted}
+use Rattle.pine.proofs.Sizes.{bound-64, norm-64, bound-positive}
+use Rattle.pine.proofs.Lengths.{row-right}
+use Rattle.flp.specs.Tests.{testsOf}
+use Rattle.flp.specs.Encode.{elements, sqNorm, resultsOf, measurementOf, coordinatesRule, gradientLenRule, sqNormRule, inRange, rangeRule, encodeOutcome, encodeRules, encodeAnswer, encodeOf}
+use Rattle.encode.specs.Steps.{Usable, checkedOf}
+use Rattle.encode.proofs.Coordinates.{all-usable}
+
+-- each as the last rule of a chain
+range-last : (p b k : ℕ) (rs : List ℕ) → first (rangeRule p b k rs) accepted ≡ rangeRule p b k rs
+unfolding rangeRule
+range-last p b k [] = refl
+range-last p b k (r ∷ rs) = go (inRange p b r) (range-last p b (suc k) rs)
+  where
+    go : (t : Bool) → first (rangeRule p b (suc k) rs) accepted ≡ rangeRule p b (suc k) rs → first (cond t (rangeRule p b (suc k) rs) (answer 11 k)) accepted ≡ cond t (rangeRule p b (suc k) rs) (answer 11 k)
+    go true e = e
+    go false e = refl
+
+len-last : (n d : ℕ) → first (gradientLenRule n d) accepted ≡ gradientLenRule n d
+len-last n d = go (eqb n d)
+  where
+    go : (t : Bool) → first (cond t accepted (answer 9 0)) accepted ≡ cond t accepted (answer 9 0)
+    go true = refl
+    go false = refl
+
+module _ (F : Field) (i : PineParam) (g : List Float) (s m r : List ℕ) where
+  abbrev early : Answer
+  early = inOrder (take 6 (encodeRules F i g s m r))
+
+  abbrev xs : List ℕ
+  xs = elements (F .p) (i .«frac_bits») g
+
+  -- ---- rules 1 to 9
+
+  -- one of the first six is broken
+  pub early-stopped : (a : Answer) → a ≡ paramAnswer F i → (a .number ≡ 0 → ⊥) → a ≡ early
+  unfolding encodeRules
+  early-stopped a e h = simp (← e, ne-eqb (a .number) 0 h)
+
+  -- the answers to those after
+  pub early-answer : (a₂ a₃ a₄ a₅ a₆ : Answer) → paramAnswer F i .number ≡ 0
+      → a₂ ≡ rowRule 2 (length s) (streamLen (i .«num_wr_tests») (i .dimension))
+      → a₃ ≡ rowRule 3 (length m) (encodedInputLen i)
+      → a₄ ≡ rowRule 4 (length r) (i .«num_wr_tests»)
+      → a₅ ≡ coordinatesRule 0 g
+      → a₆ ≡ gradientLenRule (length g) (i .dimension)
+      → first a₂ (first a₃ (first a₄ (first a₅ a₆))) ≡ early
+  unfolding encodeRules
+  early-answer a₂ a₃ a₄ a₅ a₆ h e₂ e₃ e₄ e₅ e₆ = simp (e₂, e₃, e₄, e₅, e₆, eq-eqb _ _ h, len-last (length g) (i .dimension))
+
+  pub early-refused : (a : Answer) → a ≡ early → (a .number ≡ 0 → ⊥) → encodeOutcome a m r ≡ encodeOf F i g s m r
+  unfolding encodeOf
+  early-refused a e h =
+      let f : encodeAnswer F i g s m r ≡ a = split 6 (encodeRules F i g s m r) ∙ first-refused early (inOrder (drop 6 (encodeRules F i g s m r))) (λ z. h (ap (λ (b : Answer). b .number) e ∙ z)) ∙ sym e in
+      rw (f, ne-eqb (a .number) 0 h)
+
+  pub early-met : (a : Answer) → a ≡ early → a .number ≡ 0 → early ≡ accepted
+  early-met a e h = accepted-whole (take 6 (encodeRules F i g s m r)) (ap (λ (b : Answer). b .number) (sym e) ∙ h)
+
+  -- ---- these are met
+
+  module _ (met : early ≡ accepted) where
+    pub record Ready : Type 0 where
+      pub inputs : paramAnswer F i ≡ accepted
+      pub stream-long : length s ≡ streamLen (i .«num_wr_tests») (i .dimension)
+      pub measurement-long : length m ≡ encodedInputLen i
+      pub results-long : length r ≡ i .«num_wr_tests»
+      pub usable : Usable g
+      pub gradient-long : length g ≡ i .dimension
+      pub small : (i .dimension ≤ 65536) × (i .«num_wr_tests» ≤ 256)
+
+    pub ready : Ready
+    unfolding encodeRules
+    ready =
+        let h = passed (take 6 (encodeRules F i g s m r)) (ap (λ (b : Answer). b .number) met) in
+        let l = limits F i (h .0) in
+        record {
+          inputs = param-accepted F i (h .0);
+          stream-long = row-right 2 _ _ (h .1 .0);
+          measurement-long = row-right 3 _ _ (h .1 .1 .0);
+          results-long = row-right 4 _ _ (h .1 .1 .1 .0);
+          usable = all-usable 0 g (h .1 .1 .1 .1 .0);
+          gradient-long = eqb-true _ _ (so _ 8 0 (h .1 .1 .1 .1 .1 .0));
+          small = (l .dimension .1, l .tests .1);
+        }
+
+    pub few : length r ≤ 256
+    few = omega (arith, ready .results-long, ready .small .1)
+
+    -- with a row of n results: the tests have room
+    module _ (n : ℕ) (l : n ≡ length r) where
+      pub room : (n * ((length g + 3) / 4) ≤ length s) × ((length g ≤ 4 * ((length g + 3) / 4)) × ((length g + 3) / 4 < 65536))
+      room =
+          let f : length s ≡ n * ((length g + 3) / 4) = ready .stream-long ∙ (λ j. sym (l ∙ ready .results-long) j * bytesPerTest (sym (ready .gradient-long) j)) in
+          (le-of-eq (sym f), (omega arith, omega (arith, ready .gradient-long, ready .small .0)))
+
+      -- with the record of the inputs
+      module _ (R : Pine) (is : R ≡ pineOf i) where
+        abbrev ys : List ℕ
+        ys = elements (F .p) (R .«frac_bits») g
+
+        -- the rest of the measurement's row is as long as what follows the gradient
+        pub rest-long : length m ≡ length g + (2 * R .«sq_norm_bits» + (1 + R .«wr_test_bits») * n)
+        unfolding pineOf encodedInputLen bitCheckedLen
+        rest-long = rw is (ready .measurement-long ∙ (λ j. sym (ready .gradient-long) j + (2 * sqNormBits i + (1 + wrTestBits i) * sym (l ∙ ready .results-long) j)))
+
+        -- what the code has found
+        module _ (v : ℕ) (rs : List ℕ) (a : Answer) (ev : v ≡ sqNorm (F .p) ys) (er : rs ≡ testsOf (F .p) ((length g + 3) / 4) n s ys)
+            (ea : a ≡ first (sqNormRule v (R .«sq_norm_bound»)) (rangeRule (F .p) (R .«wr_test_bound») 0 rs)) where
+          norm-is : v ≡ sqNorm (F .p) xs
+          unfolding pineOf
+          norm-is = rw is at ev
+
+          results-are : rs ≡ resultsOf (F .p) i s xs
+          unfolding pineOf resultsOf
+          results-are = er ∙ (λ j. testsOf (F .p) (bytesPerTest (ready .gradient-long j)) ((l ∙ ready .results-long) j) s (elements (F .p) (is j .«frac_bits») g))
+
+          late-is : a ≡ first (sqNormRule v (sqNormBound i)) (rangeRule (F .p) (wrTestBound i) 0 rs)
+          unfolding pineOf
+          late-is = ea ∙ ap (λ (P : Pine). first (sqNormRule v (P .«sq_norm_bound»)) (rangeRule (F .p) (P .«wr_test_bound») 0 rs)) is
+
+          late : inOrder (drop 6 (encodeRules F i g s m r)) ≡ first (sqNormRule v (sqNormBound i)) (rangeRule (F .p) (wrTestBound i) 0 rs)
+          unfolding encodeRules
+          late = rw (norm-is, results-are, range-last (F .p) (wrTestBound i) 0 (resultsOf (F .p) i s xs))
+
+          answer-is : encodeAnswer F i g s m r ≡ a
+          answer-is = split 6 (encodeRules F i g s m r) ∙ first-passed early (inOrder (drop 6 (encodeRules F i g s m r))) (ap (λ (b : Answer). b .number) met) ∙ late ∙ sym late-is
+
+          pub late-refused : (a .number ≡ 0 → ⊥) → encodeOutcome a m r ≡ encodeOf F i g s m r
+          unfolding encodeOf
+          late-refused h = rw (answer-is, ne-eqb (a .number) 0 h)
+
+          module _ (m₁ r₁ : List ℕ) (z : a .number ≡ 0)
+              (em : m₁ ≡ ys ++ checkedOf (F .p) (R .«sq_norm_bits») v (subMod (F .p) (R .«sq_norm_bound») v) (R .«wr_test_bits») (R .«wr_test_bound») (R .«num_wr_successes») rs) (e₁ : r₁ ≡ rs) where
+            written : m₁ ≡ measurementOf (F .p) i s xs
+            unfolding pineOf measurementOf
+            written =
+                em
+                ∙ ap (λ (P : Pine). elements (F .p) (P .«frac_bits») g ++ checkedOf (F .p) (P .«sq_norm_bits») v (subMod (F .p) (P .«sq_norm_bound») v) (P .«wr_test_bits») (P .«wr_test_bound») (P .«num_wr_successes») rs) is
+                ∙ (λ j. xs ++ checkedOf (F .p) (sqNormBits i) (norm-is j) (subMod (F .p) (sqNormBound i) (norm-is j)) (wrTestBits i) (wrTestBound i) (i .«num_wr_successes») (results-are j))
+
+            pub done : encodeOutcome a m₁ r₁ ≡ encodeOf F i g s m r
+            unfolding encodeOf
+            done = rw (answer-is, eq-eqb (a .number) 0 z, written, e₁, results-are)
+
+-- a part of the row that is filled with 0 first
+pub part-long : (n : ℕ) → n ≤ 256 → length (take n (replicate {A = ℕ} 256 0)) ≡ n
+part-long n h = length-take-le n (replicate {A = ℕ} 256 0) h
+
+-- ---- of the record
+
+module _ (i : PineParam) (R : Pine) (is : R ≡ pineOf i) where
+  pub scale-is : R .scale ≡ power (R .«frac_bits»)
+  unfolding pineOf
+  scale-is = rw is
+
+  -- what Field64 has room for
+  pub bounds-fit : paramAnswer Field64 i ≡ accepted → (R .«wr_test_bound» ≤ p64) × ((0 < R .«wr_test_bound») × (R .«sq_norm_bound» < p64))
+  unfolding pineOf
+  bounds-fit e = rw is (omega (arith, bound-64 i e), (bound-positive i, norm-64 i e))

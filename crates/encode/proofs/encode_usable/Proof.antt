@@ -1,0 +1,79 @@
+-- `flp::encode_usable` meets its contract. Assumes nothing.
+use mathlib.Core.Path.{_∙_}
+use native.Mathlib.Omega.{arith}
+use borrow.Author.Needs.{needs}
+use Rattle.field64.specs.Field.{p64}
+use lib.ListN.{length}
+use Rattle.pine.specs.Param.{Field64}
+use Rattle.flp.proofs.Tests.{results-below}
+use Rattle.encode.proofs.Encoding.{ready, room, rest-long, late-refused, done, scale-is, bounds-fit}
+use Rattle.encode.proofs.encode_usable.Statement.{statement}
+use Rattle.encode.proofs.encode_usable.Tie as tie
+
+new-requires : tie.Need-new-requires
+new-requires c κs =
+    let s = c .before .before .before .before .before in
+    ready Field64 (s .args .param) (s .args .gradient .now) (s .args .stream .now) (s .args .measurement .now) (s .args .results .now) (s .pre .0) .inputs
+
+add-per : tie.Need-add-per
+add-per c = search needs
+
+norm-and-tests-requires : tie.Need-norm-and-tests-requires
+norm-and-tests-requires c κs =
+    let s = c .before .before .before .before .before .before .before in
+    (ready Field64 (s .args .param) (s .args .gradient .now) (s .args .stream .now) (s .args .measurement .now) (s .args .results .now) (s .pre .0) .usable, (scale-is (s .args .param) _ (c .before .new .ensures), room Field64 (s .args .param) (s .args .gradient .now) (s .args .stream .now) (s .args .measurement .now) (s .args .results .now) (s .pre .0) (length (s .args .found .now)) (s .pre .1)))
+
+check-norm-and-tests-requires : tie.Need-check-norm-and-tests-requires
+check-norm-and-tests-requires c κs =
+    let s = c .before .before .before .before .before .before .before .before .before .before .before in
+    bounds-fit (s .args .param) _ (c .before .before .before .before .before .new .ensures) (ready Field64 (s .args .param) (s .args .gradient .now) (s .args .stream .now) (s .args .measurement .now) (s .args .results .now) (s .pre .0) .inputs) .0
+
+same-length : tie.Need-same-length
+same-length c = search needs
+
+returns : tie.Need-returns
+returns c =
+    let s = c .before .before .before .before .before .before .before .before .before .before .before .before .before .before in
+    late-refused Field64 (s .args .param) (s .args .gradient .now) (s .args .stream .now) (s .args .measurement .now) (s .args .results .now) (s .pre .0) (length (s .args .found .now)) (s .pre .1) _ (c .before .before .before .before .before .before .before .before .new .ensures) (c .before .before .before .before .before .before .norm-and-tests .result) _ _ (c .before .before .before .before .before .before .norm-and-tests .ensures .0 .1) (c .before .before .before .before .before .before .norm-and-tests .ensures .1) (c .before .before .check-norm-and-tests .ensures) (c .if1 .taken)
+
+write-measurement-requires : tie.Need-write-measurement-requires
+write-measurement-requires c κs =
+    let s = c .before .before .before .before .before .before .before .before .before .before .before .before .before .before .before .before in
+    let t = c .before .before .before .before .before .before .before .before .norm-and-tests in
+    let e = c .before .before .before .before .before .before .before .before .before .before .new .ensures in
+    let b = bounds-fit (s .args .param) _ e (ready Field64 (s .args .param) (s .args .gradient .now) (s .args .stream .now) (s .args .measurement .now) (s .args .results .now) (s .pre .0) .inputs) in
+    (ready Field64 (s .args .param) (s .args .gradient .now) (s .args .stream .now) (s .args .measurement .now) (s .args .results .now) (s .pre .0) .usable, (scale-is (s .args .param) _ e, (rest-long Field64 (s .args .param) (s .args .gradient .now) (s .args .stream .now) (s .args .measurement .now) (s .args .results .now) (s .pre .0) _ (t .kept .1 .1 .1 .1 .1 .0 ∙ s .pre .1) _ e, ((results-below p64 (omega arith) _ _ _ _ _ (t .ensures .1), (b .1 .0, b .0)), (t .ensures .0 .0, b .1 .1)))))
+
+copy-row-requires : tie.Need-copy-row-requires
+copy-row-requires c κs = search needs
+
+same-length-2 : tie.Need-same-length-2
+same-length-2 c = search needs
+
+same-length-3 : tie.Need-same-length-3
+same-length-3 c = search needs
+
+same-length-4 : tie.Need-same-length-4
+same-length-4 c = search needs
+
+returns-2 : tie.Need-returns-2
+returns-2 c =
+    let s = c .before .before .before .before .before .before .before .before .before .before .before .before .before .before .before .before .before .before .before .before .before .before .before .before in
+    done Field64 (s .args .param) (s .args .gradient .now) (s .args .stream .now) (s .args .measurement .now) (s .args .results .now) (s .pre .0) (length (s .args .found .now)) (s .pre .1) _ (c .before .before .before .before .before .before .before .before .before .before .before .before .before .before .before .before .before .before .new .ensures) (c .before .before .before .before .before .before .before .before .before .before .before .before .before .before .before .before .norm-and-tests .result) _ _ (c .before .before .before .before .before .before .before .before .before .before .before .before .before .before .before .before .norm-and-tests .ensures .0 .1) (c .before .before .before .before .before .before .before .before .before .before .before .before .before .before .before .before .norm-and-tests .ensures .1) (c .before .before .before .before .before .before .before .before .before .before .before .before .check-norm-and-tests .ensures) _ _ (c .before .before .before .before .before .before .before .before .before .before .if1 .left) (c .before .before .before .before .before .before .before .write-measurement .ensures) (c .before .before .copy-row .ensures)
+
+pub encode-usable-spec : {M : Type 1} → statement M
+encode-usable-spec =
+    tie.close
+    (tie.spec
+    new-requires
+    add-per
+    norm-and-tests-requires
+    check-norm-and-tests-requires
+    same-length
+    returns
+    write-measurement-requires
+    copy-row-requires
+    same-length-2
+    same-length-3
+    same-length-4
+    returns-2)

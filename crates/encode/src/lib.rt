@@ -1,0 +1,88 @@
+// Encoding a gradient (`encode_with_wr_joint_rand` of pine/flp.rs of the Rust).
+use pine::PineParam;
+use pine::record::Pine;
+use rules::Answer;
+
+mod steps;
+
+ghost use mathlib.Core.Path.{_≡_};
+ghost use lib.ListN.{length, take};
+ghost use Rattle.rules.specs.Rules.{accepted, inOrder};
+ghost use Rattle.pine.specs.Param.{Field64};
+ghost use Rattle.flp.specs.Encode.{encodeRules, encodeOutcome, encodeOf};
+
+// Rules 1 to 9, of encoding.
+fn check_encode(
+    param: PineParam,
+    gradient: &[f64],
+    stream: &[u8],
+    measurement: &[u64],
+    results: &[u64],
+) -> Answer
+    ensures { λ r. ⌜ r ≡ inOrder (take 6 (encodeRules Field64 param (now (gradient .entry)) (now (stream .entry)) (now (measurement .entry)) (now (results .entry)))) ⌝ }
+{
+    let inputs = pine::check_param(param);
+    if inputs.number != 0 {
+        return inputs;
+    }
+    let pine = Pine::new(param);
+    let row_2 = pine::rows::check_len(2, stream.len(), pine.stream_len());
+    let row_3 = pine::rows::check_len(3, measurement.len(), pine.encoded_input_len);
+    let row_4 = pine::rows::check_len(4, results.len(), pine.num_wr_tests);
+    let coordinates = steps::check_coordinates(gradient);
+    let gradient_len = steps::check_gradient_len(gradient.len(), pine.dimension);
+    row_2.or(row_3.or(row_4.or(coordinates.or(gradient_len))))
+}
+
+// Encoding where rules 1 to 9 are met, with a row for the results that may be spoilt: they are known
+// before anything is written.
+fn encode_usable(
+    param: PineParam,
+    gradient: &[f64],
+    stream: &[u8],
+    found: &mut [u64],
+    measurement: &mut [u64],
+    results: &mut [u64],
+) -> Answer
+    requires { ⌜ inOrder (take 6 (encodeRules Field64 param (now gradient) (now stream) (now measurement) (now results))) ≡ accepted ⌝ }
+    requires { ⌜ length (now found) ≡ length (now results) ⌝ }
+    ensures { λ r. ⌜ encodeOutcome r (now (measurement .exit)) (now (results .exit)) ≡ encodeOf Field64 param (now (gradient .entry)) (now (stream .entry)) (now (measurement .entry)) (now (results .entry)) ⌝ }
+{
+    let pine = Pine::new(param);
+    let per = (gradient.len() + 3) / 4;
+    let v = steps::norm_and_tests(gradient, pine.scale, pine.frac_bits, per, stream, found);
+    let late = steps::check_norm_and_tests(v, pine.sq_norm_bound, found, pine.wr_test_bound);
+    if late.number != 0 {
+        return late;
+    }
+    steps::write_measurement(pine, gradient, v, found, measurement);
+    steps::copy_row(found, results);
+    late
+}
+
+// Encodes a gradient, with the lent stream for the wraparound tests: the measurement goes to one row
+// and the tests' results to another.
+pub fn encode_with_wr_joint_rand(
+    param: PineParam,
+    gradient: &[f64],
+    stream: &[u8],
+    measurement: &mut [u64],
+    results: &mut [u64],
+) -> Answer
+    ensures { λ r. ⌜ encodeOutcome r (now (measurement .exit)) (now (results .exit)) ≡ encodeOf Field64 param (now (gradient .entry)) (now (stream .entry)) (now (measurement .entry)) (now (results .entry)) ⌝ }
+{
+    let early = check_encode(param, gradient, stream, measurement, results);
+    if early.number != 0 {
+        return early;
+    }
+    let mut found = [0u64; 256];
+    let tests = results.len();
+    encode_usable(
+        param,
+        gradient,
+        stream,
+        &mut found[..tests],
+        measurement,
+        results,
+    )
+}

@@ -1,0 +1,2 @@
+-- `Places`: laws of the parts of a row by their places.
+pub mod Places

@@ -1,0 +1,2 @@
+-- The definitions that the contracts of `pine_c` cite, beside those of the calls themselves.
+pub mod Places

@@ -1,0 +1,58 @@
+-- `flp::parts::check_part` meets its contract. Assumes nothing.
+use mathlib.Core.Path.{_≡_, sym, ap, _∙_}
+use lib.ListN.{length}
+use Rattle.rules.specs.declared.Answer.{Answer}
+use Rattle.pine.specs.Param.{Field64, paramAnswer}
+use Rattle.pine.proofs.Limits.{param-accepted}
+use Rattle.pine.specs.Rows.{rowRule}
+use Rattle.validity.proofs.Verdicts.{input-is, part-stopped, part-answer}
+use borrow.Author.Needs.{needs}
+use Rattle.validity.proofs.parts.check_part.Statement.{statement}
+use Rattle.validity.proofs.parts.check_part.Tie as tie
+
+-- the inputs are accepted
+met : (c : tie.Else1) → paramAnswer Field64 (c .before .before .before .before .args .param) .number ≡ 0
+met c = ap (λ (a : Answer). a .number) (sym (c .before .before .check-param .ensures)) ∙ c .if1 .left
+
+check-param-requires : tie.Need-check-param-requires
+check-param-requires c κs = search needs
+
+returns : tie.Need-returns
+returns c =
+    let b = c .before .before in
+    part-stopped (b .before .before .args .param) (b .before .before .args .full .now) _ (b .check-param .ensures) (c .if1 .taken)
+
+new-requires : tie.Need-new-requires
+new-requires c κs = param-accepted Field64 _ (met c)
+
+input-len-requires : tie.Need-input-len-requires
+input-len-requires c κs = search needs
+
+check-len-requires : tie.Need-check-len-requires
+check-len-requires c κs = search needs
+
+check-elements-requires : tie.Need-check-elements-requires
+check-elements-requires c κs = search needs
+
+or-requires : tie.Need-or-requires
+or-requires c κs = search needs
+
+returns-2 : tie.Need-returns-2
+returns-2 c =
+    let n = c .before .before .before .before in
+    let a = n .before .before .before .before .before .args in
+    c .or .ensures
+    ∙ part-answer (a .param) (a .full .now) _ _ (met (n .before)) (c .before .before .check-len .ensures ∙ ap (rowRule 1 (length (a .full .now))) (input-is (a .param) _ _ (n .new .ensures) (c .before .before .before .input-len .ensures))) (c .before .check-elements .ensures)
+
+pub check-part-spec : {M : Type 1} → statement M
+check-part-spec =
+    tie.close
+    (tie.spec
+    check-param-requires
+    returns
+    new-requires
+    input-len-requires
+    check-len-requires
+    check-elements-requires
+    or-requires
+    returns-2)

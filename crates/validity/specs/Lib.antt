@@ -1,0 +1,2 @@
+-- What the inner functions of the circuits give.
+pub mod OnParts

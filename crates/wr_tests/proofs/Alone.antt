@@ -1,0 +1,68 @@
+-- The cases of the tests alone. Assumes nothing.
+use mathlib.Core.Path.{_≡_, sym, ap, _∙_}
+use mathlib.Core.List.{List}
+use Prim.Native.Nat.{ℕ, _+_, _*_, _/_, _≤_, _<_}
+use native.Mathlib.Nat.{le-of-eq}
+use native.Mathlib.Omega.{arith}
+use lib.ListN.{length}
+use lib.Dec.{ltb}
+use borrow.Author.Tests.{eq-eqb, ne-eqb}
+use Rattle.rules.specs.declared.Answer.{Answer}
+use Rattle.rules.specs.Rules.{first, inOrder}
+use Rattle.rules.proofs.Chain.{passed, refuse-last}
+use Rattle.pine.specs.declared.PineParam.{PineParam}
+use Rattle.pine.specs.Param.{Field, paramAnswer}
+use Rattle.pine.specs.Record.{bytesPerTest, streamLen}
+use Rattle.pine.specs.Rows.{firstBad, rowRule, elementsRule, Below}
+use Rattle.pine.specs.Outcome.{outcome}
+use Rattle.pine.proofs.Limits.{limits}
+use Rattle.pine.proofs.Lengths.{row-right}
+use Rattle.pine.proofs.Elements.{elements-below}
+use Rattle.flp.specs.Tests.{testsOf, runTestsRules, runTestsOf}
+
+module _ (F : Field) (i : PineParam) (xs s d : List ℕ) where
+  -- the answers to the rules after the first six
+  pub tests-answer : (a₁ a₂ a₃ a₄ : Answer) → paramAnswer F i .number ≡ 0
+      → a₁ ≡ rowRule 1 (length xs) (i .dimension)
+      → a₂ ≡ rowRule 2 (length s) (streamLen (i .«num_wr_tests») (i .dimension))
+      → a₃ ≡ rowRule 3 (length d) (i .«num_wr_tests»)
+      → a₄ ≡ elementsRule (F .p) xs
+      → first a₁ (first a₂ (first a₃ a₄)) ≡ inOrder (runTestsRules F i xs s d)
+  unfolding runTestsRules
+  tests-answer a₁ a₂ a₃ a₄ h e₁ e₂ e₃ e₄ = simp (e₁, e₂, e₃, e₄, eq-eqb _ _ h, refuse-last (ltb (firstBad (F .p) xs) (length xs)) 11 (0 + firstBad (F .p) xs))
+
+  -- one of the first six is broken
+  pub stopped : (a : Answer) → a ≡ paramAnswer F i → (a .number ≡ 0 → ⊥) → a ≡ inOrder (runTestsRules F i xs s d)
+  unfolding runTestsRules
+  stopped a e h = simp (← e, ne-eqb (a .number) 0 h)
+
+  module _ (a : Answer) (e : a ≡ inOrder (runTestsRules F i xs s d)) where
+    pub refused : (a .number ≡ 0 → ⊥) → outcome a d ≡ runTestsOf F i xs s d
+    unfolding runTestsOf
+    refused f = simp (← e, ne-eqb (a .number) 0 f)
+
+    module _ (z : a .number ≡ 0) where
+      pub record Met : Type 0 where
+        pub small : i .dimension ≤ 65536
+        pub row-1 : length xs ≡ i .dimension
+        pub row-2 : length s ≡ streamLen (i .«num_wr_tests») (i .dimension)
+        pub row-3 : length d ≡ i .«num_wr_tests»
+        pub below : Below (F .p) xs
+
+      pub met : Met
+      unfolding runTestsRules
+      met =
+          let h = passed (runTestsRules F i xs s d) (ap (λ (b : Answer). b .number) (sym e) ∙ z) in
+          record { small = limits F i (h .0) .dimension .1; row-1 = row-right 1 _ _ (h .1 .0); row-2 = row-right 2 _ _ (h .1 .1 .0); row-3 = row-right 3 _ _ (h .1 .1 .1 .0); below = elements-below (F .p) 0 xs (h .1 .1 .1 .1 .0) }
+
+      -- the rows have room for a block of all the tests
+      pub room : (length d * ((length xs + 3) / 4) ≤ length s) × ((length xs ≤ 4 * ((length xs + 3) / 4)) × ((length xs + 3) / 4 < 65536))
+      room =
+          let f : length s ≡ length d * ((length xs + 3) / 4) = met .row-2 ∙ (λ j. sym (met .row-3) j * bytesPerTest (sym (met .row-1) j)) in
+          (le-of-eq (sym f), (omega arith, omega (arith, met .row-1, met .small)))
+
+      pub done : (r : List ℕ) → r ≡ testsOf (F .p) ((length xs + 3) / 4) (length d) s xs → outcome a r ≡ runTestsOf F i xs s d
+      unfolding runTestsOf
+      done r q =
+          let f : r ≡ testsOf (F .p) (bytesPerTest (i .dimension)) (i .«num_wr_tests») s xs = q ∙ (λ j. testsOf (F .p) (bytesPerTest (met .row-1 j)) (met .row-3 j) s xs) in
+          simp (f, ← e, eq-eqb (a .number) 0 z)

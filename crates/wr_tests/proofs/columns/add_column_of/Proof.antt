@@ -1,0 +1,71 @@
+-- `flp::wr_tests::add_column_of` meets its contract. Assumes nothing.
+use mathlib.Core.Path.{_∙_}
+use borrow.Author.Needs.{needs}
+use Rattle.field64.specs.Field.{p64}
+use Rattle.wr_tests.specs.Columns.{addColumn}
+use Rattle.wr_tests.proofs.columns.add_column_of.Statement.{statement}
+use Rattle.wr_tests.proofs.columns.add_column_of.Tie as tie
+
+mul-at : tie.Need-mul-at
+mul-at c = search needs
+
+at-requires : tie.Need-at-requires
+at-requires c κs = search needs
+
+mul-at-2 : tie.Need-mul-at-2
+mul-at-2 c = search needs
+
+add-at : tie.Need-add-at
+add-at c = search needs
+
+at-requires-2 : tie.Need-at-requires-2
+at-requires-2 c κs = search needs
+
+mul-at-3 : tie.Need-mul-at-3
+mul-at-3 c = search needs
+
+add-at-2 : tie.Need-add-at-2
+add-at-2 c = search needs
+
+at-requires-3 : tie.Need-at-requires-3
+at-requires-3 c κs = search needs
+
+mul-at-4 : tie.Need-mul-at-4
+mul-at-4 c = search needs
+
+add-at-3 : tie.Need-add-at-3
+add-at-3 c = search needs
+
+at-requires-4 : tie.Need-at-requires-4
+at-requires-4 c κs = search needs
+
+add-column-requires : tie.Need-add-column-requires
+add-column-requires c κs = search needs
+
+same-length : tie.Need-same-length
+same-length c = search needs
+
+returns : tie.Need-returns
+returns c =
+    let s = c .before .before .before .before .before .before .before .before .before .before .before in
+    c .before .before .add-column .ensures
+    ∙ (λ i. addColumn p64 (s .args .per) (s .args .j) (c .before .before .before .before .before .before .before .at .ensures .1 i) (c .before .before .before .before .before .before .at2 .ensures .1 i) (c .before .before .before .before .before .at3 .ensures .1 i) (c .before .before .before .before .at4 .ensures .1 i) (s .args .stream .now) (s .args .results .now))
+
+pub add-column-of-spec : {M : Type 1} → statement M
+add-column-of-spec =
+    tie.close
+    (tie.spec
+    mul-at
+    at-requires
+    mul-at-2
+    add-at
+    at-requires-2
+    mul-at-3
+    add-at-2
+    at-requires-3
+    mul-at-4
+    add-at-3
+    at-requires-4
+    add-column-requires
+    same-length
+    returns)

@@ -1,0 +1,2 @@
+-- What the inner functions of the tests give.
+pub mod Columns

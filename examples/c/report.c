@@ -1,0 +1,173 @@
+/* Reports from end to end: a client encodes a gradient and cuts it in two; each of two servers runs the
+ * wraparound tests on its share and adds it to its aggregate; the two aggregates together give the sum of
+ * the gradients. C11, and C++ as well. */
+#include "pine.h"
+
+#include <stdio.h>
+#include <stdlib.h>
+
+enum { DIMENSION = 5, REPORTS = 3 };
+
+static const PineParam param = {
+    /* norm_bound: of the gradient times 2^frac_bits */ 1 << 12,
+    /* dimension */ DIMENSION,
+    /* frac_bits */ 8,
+    /* chunk_len */ 16,
+    /* chunk_len_sq_norm_equal */ 2,
+    /* num_wr_tests */ 10,
+    /* num_wr_successes */ 10,
+};
+
+static const double gradients[REPORTS][DIMENSION] = {
+    {1.5, -2.25, 0.0, 4.0, -0.125},
+    {-3.0, 0.5, 8.0, -1.0, 0.25},
+    {0.0, 0.75, -6.5, 2.5, -10.0},
+};
+
+static const char *const rules[] = {
+    "accepted",
+    "num_wr_successes is above num_wr_tests",
+    "norm_bound is out of its limits",
+    "dimension is out of its limits",
+    "frac_bits is out of its limits",
+    "a chunk length is out of its limits",
+    "num_wr_tests is out of its limits",
+    "a row has another length than derived",
+    "a coordinate is NaN, infinite or subnormal",
+    "the gradient's length is not the dimension",
+    "the squared norm is above its bound",
+    "a wraparound test's result is out of range",
+    "an element is not below p",
+    "num_shares is out of its limits",
+};
+
+static void must(PineAnswer answer, const char *call) {
+    if (answer.number != PINE_ACCEPTED) {
+        fprintf(stderr, "%s: %s (rule %u, place %lu)\n", call, rules[answer.number],
+                (unsigned)answer.number, (unsigned long)answer.place);
+        exit(1);
+    }
+}
+
+static void *row(uint64_t len, size_t size) {
+    void *r = malloc((size_t)len * size);
+    if (r == NULL) {
+        fputs("out of memory\n", stderr);
+        exit(1);
+    }
+    return r;
+}
+
+/* A stand-in. The stream and the cut of a real report need a cryptographic source of randomness: what
+ * the servers learn of a gradient depends on it. */
+static uint64_t state = UINT64_C(0x9e3779b97f4a7c15);
+
+static uint64_t next(void) {
+    state ^= state << 13;
+    state ^= state >> 7;
+    state ^= state << 17;
+    return state;
+}
+
+static uint64_t next_element(void) {
+    uint64_t x = next();
+    while (x >= PINE_FIELD_MODULUS) {
+        x = next();
+    }
+    return x;
+}
+
+/* a - b and a + b modulo p */
+static uint64_t sub(uint64_t a, uint64_t b) {
+    return a >= b ? a - b : PINE_FIELD_MODULUS - (b - a);
+}
+
+static uint64_t add(uint64_t a, uint64_t b) {
+    return sub(a, b == 0 ? 0 : PINE_FIELD_MODULUS - b);
+}
+
+int main(void) {
+    const PineDerived derived = pine_derive(param);
+    must(derived.answer, "derive");
+    const size_t d = (size_t)param.dimension;
+    const size_t stream_len = (size_t)derived.stream_len;
+    const size_t encoded_len = (size_t)derived.pine.encoded_input_len;
+    const size_t input_len = (size_t)derived.pine.input_len;
+    const size_t tests = (size_t)derived.pine.num_wr_tests;
+
+    uint8_t *stream = (uint8_t *)row(stream_len, 1);
+    uint64_t *full = (uint64_t *)row(input_len, 8); /* a measurement, then its results */
+    uint64_t *share[2], *aggregate[2];
+    double *decoded = (double *)row(d, sizeof(double));
+    for (int s = 0; s < 2; s++) {
+        share[s] = (uint64_t *)row(input_len, 8);
+        aggregate[s] = (uint64_t *)row(d, 8);
+        must(pine_empty_aggregate(param, aggregate[s], d), "empty_aggregate");
+    }
+
+    for (int report = 0; report < REPORTS; report++) {
+        /* the client */
+        for (size_t i = 0; i < stream_len; i++) {
+            stream[i] = (uint8_t)(next() >> 56);
+        }
+        PineAnswer answer = pine_encode_with_wr_joint_rand(
+            param, gradients[report], DIMENSION, stream, stream_len, full, encoded_len,
+            full + encoded_len, tests);
+        if (answer.number == PINE_WR_TEST) {
+            /* rare: these tests wrap around with this stream; another stream may do */
+            report--;
+            continue;
+        }
+        must(answer, "encode_with_wr_joint_rand");
+        for (size_t i = 0; i < encoded_len; i++) {
+            share[0][i] = next_element();
+            share[1][i] = sub(full[i], share[0][i]);
+        }
+
+        /* each server, with the report's stream */
+        for (int s = 0; s < 2; s++) {
+            must(pine_run_wr_tests(param, share[s], d, stream, stream_len,
+                                   share[s] + encoded_len, tests),
+                 "run_wr_tests");
+        }
+
+        /* Both circuits are 0 on the sum of the two full shares. (Servers that must not see that sum
+         * show the same by the FLP's proof, which this library leaves to others.) */
+        uint64_t joint_rand[PINE_JOINT_RAND_LEN] = {next_element(), next_element(), next_element()};
+        for (size_t i = 0; i < input_len; i++) {
+            full[i] = add(share[0][i], share[1][i]);
+        }
+        PineCircuit valid = pine_valid(param, 1, full, input_len, joint_rand, PINE_JOINT_RAND_LEN);
+        must(valid.answer, "valid");
+        PineCircuit equal = pine_valid_sq_norm_equal(param, 1, full, input_len);
+        must(equal.answer, "valid_sq_norm_equal");
+        if (valid.value != 0 || equal.value != 0) {
+            fputs("an invalid report\n", stderr);
+            return 1;
+        }
+
+        /* its share in the sum is the gradient part */
+        for (int s = 0; s < 2; s++) {
+            PinePart part = pine_gradient_part(param, share[s], input_len);
+            must(part.answer, "gradient_part");
+            must(pine_accumulate(param, aggregate[s], d, share[s] + part.start, (size_t)part.len),
+                 "accumulate");
+        }
+    }
+
+    must(pine_unshard(param, aggregate[0], d, aggregate[1], d, decoded, d), "unshard");
+    printf("the sum of %d gradients:", REPORTS);
+    for (size_t i = 0; i < d; i++) {
+        printf(" %g", decoded[i]);
+    }
+    printf("\n");
+
+    free(stream);
+    free(full);
+    free(decoded);
+    for (int s = 0; s < 2; s++) {
+        free(share[s]);
+        free(aggregate[s]);
+    }
+    return 0;
+}

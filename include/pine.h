@@ -1,0 +1,257 @@
+/* PINE reports over Field64: the proved calls of libpine_c.a, for C11 and C++.
+ *
+ * Each call is the function of the same name in the Rattle crates (doubles, pine, flp, vdaf), with the
+ * same contract: for ANY numbers and any bytes in its rows it ends, reads and writes inside its rows
+ * only, and gives exactly what the definitions in crates/.../specs say, refusals included. docs/C.md has
+ * the tables of rows and refusals, and how to link.
+ *
+ * Numbers. A field number is a uint64_t below p = 2^64 - 2^32 + 1. A row is a pointer and its length in
+ * elements, in that order. Derive the lengths by pine_derive.
+ *
+ * Answers. number 0 and place 0: accepted. Otherwise number is the first rule broken, in the order 1 to
+ * 7, 13, 12, 8, 9, 10, 11, and place is where (enum PineRule). A refused call leaves every row as it
+ * was. An accepted call writes every element of its output rows and reads none of what they held before
+ * (of an aggregate that is added to: argument and result).
+ *
+ * What the caller owes, which no proof can see:
+ * - A pointer is valid for its length, and aligned for its type (8 bytes, 1 for the stream). Give an
+ *   empty row (length 0) a pointer that is not null, too.
+ * - A row that is written overlaps no other row of the call, and nobody else reads or writes it
+ *   meanwhile. Rows that are only read may be the same row, and nobody writes them meanwhile.
+ * - Every element of a row that is read has been written once. Output rows may be uninitialised.
+ * - The floating-point environment is C's default: round to nearest, exceptions masked, subnormals kept
+ *   (neither flush-to-zero nor denormals-are-zero, which gcc's -ffast-math turns on in main programs).
+ * - The stack has room: docs/C.md has the measured need of each call, at most 2680 bytes.
+ *
+ * No call keeps state, allocates, locks, does input or output, or fails otherwise than by its answer:
+ * any number of threads may call at once. Nothing depends on a NaN's payload or sign: a NaN is refused,
+ * and no call gives one. Time is not constant: it depends on the lengths, and on the data where a call
+ * is refused.
+ *
+ * The archive is code for x86-64 (System V calls, position-independent, no instruction beyond SSE2). All it
+ * takes from a C library is memcpy and memset.
+ */
+#ifndef PINE_H
+#define PINE_H
+
+#include <stddef.h>
+#include <stdint.h>
+
+#ifdef __cplusplus
+extern "C" {
+#endif
+
+/* p, the modulus of Field64. */
+#define PINE_FIELD_MODULUS UINT64_C(0xffffffff00000001)
+
+/* The largest inputs allowed; each is at least 1, but for frac_bits and num_wr_successes. */
+#define PINE_MAX_NORM_BOUND UINT64_C(3037000499)
+#define PINE_MAX_DIMENSION UINT64_C(65536)
+#define PINE_MAX_FRAC_BITS UINT64_C(30)
+#define PINE_MAX_CHUNK_LEN UINT64_C(65536)
+#define PINE_MAX_NUM_WR_TESTS UINT64_C(256)
+#define PINE_MAX_NUM_SHARES UINT64_C(255)
+
+/* The joint randomness of pine_valid: r1, r2, r3. */
+#define PINE_JOINT_RAND_LEN 3
+
+/* What number says, and place beside it. */
+enum PineRule {
+    PINE_ACCEPTED = 0,
+    PINE_NUM_WR_SUCCESSES = 1, /* above num_wr_tests; place 0 */
+    PINE_NORM_BOUND = 2,       /* 0 or above its limit; place 0 */
+    PINE_DIMENSION = 3,        /* 0 or above its limit; place 0 */
+    PINE_FRAC_BITS = 4,        /* above its limit; place 0 */
+    PINE_CHUNK_LEN = 5,        /* either chunk length is 0 or above its limit; place 0 */
+    PINE_NUM_WR_TESTS = 6,     /* 0 or above its limit; place 0 */
+    PINE_ROW_LEN = 7,          /* a row's length is other than derived; place: the row, from 1 */
+    PINE_COORDINATE = 8,       /* NaN, infinite or subnormal; place: its index in the gradient */
+    PINE_GRADIENT_LEN = 9,     /* the gradient's length is not the dimension; place 0 */
+    PINE_SQ_NORM = 10,         /* the squared norm, a field number, is above norm_bound^2; place 0 */
+    PINE_WR_TEST = 11,         /* a wraparound test's result is out of range; place: the test, from 0 */
+    PINE_ELEMENT = 12,         /* not below p; place: its index over the rows read, joined in order */
+    PINE_NUM_SHARES = 13       /* 0 or above its limit; place 0 */
+};
+
+/* The first rule broken and its place, or 0 and 0. */
+typedef struct PineAnswer {
+    uint64_t number;
+    uint64_t place;
+} PineAnswer;
+
+/* The seven inputs: n, d, f, c, e, T and K of the papers. */
+typedef struct PineParam {
+    uint64_t norm_bound;
+    uint64_t dimension;
+    uint64_t frac_bits;
+    uint64_t chunk_len;
+    uint64_t chunk_len_sq_norm_equal;
+    uint64_t num_wr_tests;
+    uint64_t num_wr_successes;
+} PineParam;
+
+/* What follows from the inputs. */
+typedef struct PineRecord {
+    uint64_t dimension;
+    uint64_t frac_bits;
+    double scale; /* 2^frac_bits */
+    uint64_t chunk_len;
+    uint64_t chunk_len_sq_norm_equal;
+    uint64_t num_wr_tests;
+    uint64_t num_wr_successes;
+    uint64_t sq_norm_bound;
+    uint64_t sq_norm_bits;
+    uint64_t wr_test_bound;
+    uint64_t wr_test_bits;
+    uint64_t bit_checked_len;   /* of the checked part */
+    uint64_t encoded_input_len; /* of a measurement */
+    uint64_t input_len;         /* of a full vector */
+    uint64_t gadget_calls;
+    uint64_t gadget_calls_sq_norm_equal;
+} PineRecord;
+
+/* The lengths of one circuit's vectors, in elements. */
+typedef struct PineLengths {
+    uint64_t input_len;
+    uint64_t proof_len;
+    uint64_t verifier_len;
+    uint64_t joint_rand_len;
+    uint64_t prove_rand_len;
+    uint64_t query_rand_len;
+} PineLengths;
+
+/* Beside a refusal, every number is 0. */
+typedef struct PineDerived {
+    PineAnswer answer;
+    PineRecord pine;
+    uint64_t stream_len; /* in bytes */
+    PineLengths flp;
+    PineLengths flp_sq_norm_equal;
+} PineDerived;
+
+/* Beside a refusal, element is 0. */
+typedef struct PineCoordinate {
+    PineAnswer answer;
+    uint64_t element;
+} PineCoordinate;
+
+/* Beside a refusal, value is +0. */
+typedef struct PineDecoded {
+    PineAnswer answer;
+    double value;
+} PineDecoded;
+
+/* A circuit's value and how many gadget calls it made. Beside a refusal, both are 0. */
+typedef struct PineCircuit {
+    PineAnswer answer;
+    uint64_t value;
+    uint64_t gadget_calls;
+} PineCircuit;
+
+/* A part of the row that was passed: len elements from row + start. Beside a refusal, both are 0. */
+typedef struct PinePart {
+    PineAnswer answer;
+    uint64_t start;
+    uint64_t len;
+} PinePart;
+
+/* ---- parameters */
+
+/* Rules 1 to 6. */
+PineAnswer pine_check_param(PineParam param);
+
+/* The record and every length. Rules 1 to 6. */
+PineDerived pine_derive(PineParam param);
+
+/* ---- one number */
+
+/* floor(x * 2^frac_bits), clamped to +-(2^64 - 1), modulo p. Rules 4 and 8, place 0. */
+PineCoordinate pine_f64_to_field(double x, uint64_t frac_bits);
+
+/* The nearest double to y, or to y - p for y above (p - 1) / 2, divided by 2^frac_bits. Rules 4 and 12,
+ * place 0. */
+PineDecoded pine_field_to_f64(uint64_t y, uint64_t frac_bits);
+
+/* ---- a report */
+
+/* Encodes a gradient of doubles (row 1, length d), with a stream of random bytes (row 2, stream_len),
+ * into the measurement (row 3, encoded_input_len; written) and the results of the wraparound tests
+ * (row 4, num_wr_tests; written). Rules 1 to 7 (7: rows 2 to 4), 8, 9, 10, 11. */
+PineAnswer pine_encode_with_wr_joint_rand(PineParam param,
+                                          const double *gradient, size_t gradient_len,
+                                          const uint8_t *stream, size_t stream_len,
+                                          uint64_t *measurement, size_t measurement_len,
+                                          uint64_t *results, size_t results_len);
+
+/* The wraparound tests alone, on a share of the gradient's elements (row 1, d), with the report's stream
+ * (row 2, stream_len), into results (row 3, num_wr_tests; written). Rules 1 to 7, 12. */
+PineAnswer pine_run_wr_tests(PineParam param,
+                             const uint64_t *gradient, size_t gradient_len,
+                             const uint8_t *stream, size_t stream_len,
+                             uint64_t *results, size_t results_len);
+
+/* ---- the circuits, on a full vector: a measurement or a share of one, then its results */
+
+/* PineType, on a full vector (row 1, input_len) with joint randomness (row 2, 3 elements). On a report's
+ * own full vector, or the sum of its full shares, with num_shares 1, the value is 0 whatever the joint
+ * randomness. Rules 1 to 7, 13, 12. */
+PineCircuit pine_valid(PineParam param, uint64_t num_shares,
+                       const uint64_t *full, size_t full_len,
+                       const uint64_t *joint_rand, size_t joint_rand_len);
+
+/* PineTypeSquaredNormEqual, on a full vector (row 1, input_len); 0 as above. num_shares is tested, and
+ * not used otherwise. Rules 1 to 7, 13, 12. */
+PineCircuit pine_valid_sq_norm_equal(PineParam param, uint64_t num_shares,
+                                     const uint64_t *full, size_t full_len);
+
+/* Where the parts of a full vector (row 1, input_len) lie in it: the gradient, the checked elements, the
+ * results. Rules 1 to 7, 12. */
+PinePart pine_gradient_part(PineParam param, const uint64_t *full, size_t full_len);
+PinePart pine_checked_part(PineParam param, const uint64_t *full, size_t full_len);
+PinePart pine_results_part(PineParam param, const uint64_t *full, size_t full_len);
+
+/* ---- aggregates, of d elements each */
+
+/* Makes the aggregate of no shares (row 1, written). Rules 1 to 7. */
+PineAnswer pine_empty_aggregate(PineParam param, uint64_t *row, size_t row_len);
+
+/* Adds a share (row 2) to an aggregate (row 1, written). Rules 1 to 7, 12. */
+PineAnswer pine_accumulate(PineParam param,
+                           uint64_t *agg, size_t agg_len,
+                           const uint64_t *share, size_t share_len);
+
+/* Adds another aggregate (row 2) to an aggregate (row 1, written). Rules 1 to 7, 12. */
+PineAnswer pine_merge(PineParam param,
+                      uint64_t *agg, size_t agg_len,
+                      const uint64_t *other, size_t other_len);
+
+/* Adds two aggregates (rows 1 and 2) and decodes the sums (row 3, written). Rules 1 to 7, 12. */
+PineAnswer pine_unshard(PineParam param,
+                        const uint64_t *left, size_t left_len,
+                        const uint64_t *right, size_t right_len,
+                        double *decoded, size_t decoded_len);
+
+#ifdef __cplusplus
+}
+#endif
+
+/* The layout that the archive was compiled for. */
+#ifdef __cplusplus
+#define PINE_ASSERT(fact) static_assert(fact, #fact)
+#else
+#define PINE_ASSERT(fact) _Static_assert(fact, #fact)
+#endif
+PINE_ASSERT(sizeof(size_t) == 8);
+PINE_ASSERT(sizeof(double) == 8);
+PINE_ASSERT(sizeof(PineAnswer) == 16);
+PINE_ASSERT(sizeof(PineParam) == 56);
+PINE_ASSERT(sizeof(PineRecord) == 128);
+PINE_ASSERT(sizeof(PineLengths) == 48);
+PINE_ASSERT(sizeof(PineDerived) == 248);
+PINE_ASSERT(sizeof(PineCoordinate) == 24);
+PINE_ASSERT(sizeof(PineDecoded) == 24);
+PINE_ASSERT(sizeof(PineCircuit) == 32);
+PINE_ASSERT(sizeof(PinePart) == 32);
+#undef PINE_ASSERT
+
+#endif

@@ -1,0 +1,52 @@
+/* Faults that the driver has to find: each stands between it and one call (-DFAULT=N, ld's --wrap). */
+#include "pine.h"
+
+PineAnswer __real_pine_unshard(PineParam p, const uint64_t *l, size_t ln, const uint64_t *r, size_t rn, double *o, size_t on);
+PineAnswer __wrap_pine_unshard(PineParam p, const uint64_t *l, size_t ln, const uint64_t *r, size_t rn, double *o, size_t on);
+PineAnswer __real_pine_accumulate(PineParam p, uint64_t *g, size_t gn, const uint64_t *s, size_t sn);
+PineAnswer __wrap_pine_accumulate(PineParam p, uint64_t *g, size_t gn, const uint64_t *s, size_t sn);
+PineAnswer __real_pine_empty_aggregate(PineParam p, uint64_t *r, size_t n);
+PineAnswer __wrap_pine_empty_aggregate(PineParam p, uint64_t *r, size_t n);
+
+/* 1: reads past a row; 2: reads before a row; 3: decodes what the row held before */
+PineAnswer __wrap_pine_unshard(PineParam p, const uint64_t *l, size_t ln, const uint64_t *r, size_t rn, double *o, size_t on) {
+    if (FAULT == 1 && ln != 0) {
+        (void)((const volatile uint64_t *)l)[ln];
+    }
+    if (FAULT == 2 && ln != 0) {
+        (void)((const volatile uint64_t *)l)[-1];
+    }
+    double before = on == 0 ? 0 : o[0];
+    PineAnswer a = __real_pine_unshard(p, l, ln, r, rn, o, on);
+    if (FAULT == 3 && a.number == 0) {
+        o[0] = before;
+    }
+    return a;
+}
+
+/* 4: changes the aggregate though it refuses; 5: leaves it though it accepts; 6: adds to the share */
+PineAnswer __wrap_pine_accumulate(PineParam p, uint64_t *g, size_t gn, const uint64_t *s, size_t sn) {
+    uint64_t before = gn == 0 ? 0 : g[0];
+    PineAnswer a = __real_pine_accumulate(p, g, gn, s, sn);
+    if (FAULT == 4 && a.number != 0 && gn != 0) {
+        g[0] = before + 1;
+    }
+    if (FAULT == 5 && a.number == 0) {
+        g[0] = before;
+    }
+    if (FAULT == 6 && a.number == 0) {
+        ((uint64_t *)(uintptr_t)s)[0] = g[0];
+    }
+    return a;
+}
+
+/* 7: writes one element more; 8: does not return */
+PineAnswer __wrap_pine_empty_aggregate(PineParam p, uint64_t *r, size_t n) {
+    PineAnswer a = __real_pine_empty_aggregate(p, r, n);
+    if (FAULT == 7 && a.number == 0) {
+        r[n] = 0;
+    }
+    while (FAULT == 8 && a.number == 0) {
+    }
+    return a;
+}

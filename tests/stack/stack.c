@@ -1,0 +1,141 @@
+/* How much stack each call of libpine_c.a takes: it is run on a painted stack of its own, on accepted and
+ * on refused arguments, and the paint that is left is counted. What is printed includes the arguments that
+ * are passed on the stack, the return address and the struct that is returned. */
+#define _GNU_SOURCE 1
+#include "pine.h"
+
+#include <stdio.h>
+#include <stdlib.h>
+#include <string.h>
+#include <ucontext.h>
+
+enum { SIZE = 1 << 18, PAINT = 0xa5 };
+
+static unsigned char stack[SIZE];
+static ucontext_t here, there;
+static void (*body)(void);
+static unsigned char *top; /* of what the call may use */
+
+static PineParam param;
+static PineDerived derived;
+static size_t d, tests, encoded, full, stream_len;
+static double *gradient, *decoded;
+static uint64_t *elements, *measurement, *results, *other, joint_rand[PINE_JOINT_RAND_LEN] = {3, 5, 7};
+static uint8_t *stream;
+static uint64_t taken;
+
+/* Below this frame the call's begins. */
+static __attribute__((noinline)) void frame(void) {
+    top = (unsigned char *)__builtin_frame_address(0);
+    body();
+}
+
+static void run(void) { frame(); }
+
+static size_t measure(void (*call)(void)) {
+    memset(stack, PAINT, sizeof stack);
+    body = call;
+    getcontext(&there);
+    there.uc_stack.ss_sp = stack;
+    there.uc_stack.ss_size = sizeof stack;
+    there.uc_link = &here;
+    makecontext(&there, run, 0);
+    swapcontext(&here, &there);
+    size_t left = 0;
+    while (stack[left] == PAINT) {
+        left++;
+    }
+    return (size_t)(top - (stack + left));
+}
+
+static void nothing(void) {}
+static void check_param(void) { taken += pine_check_param(param).number; }
+static void derive(void) { taken += pine_derive(param).answer.number; }
+static void f64_to_field(void) { taken += pine_f64_to_field(-0.3, param.frac_bits).element; }
+static void field_to_f64(void) { taken += pine_field_to_f64(elements[0], param.frac_bits).answer.number; }
+static void encode(void) {
+    taken += pine_encode_with_wr_joint_rand(param, gradient, d, stream, stream_len, measurement, encoded, results, tests).number;
+}
+static void run_wr_tests(void) { taken += pine_run_wr_tests(param, elements, d, stream, stream_len, results, tests).number; }
+static void valid(void) { taken += pine_valid(param, 2, measurement, full, joint_rand, PINE_JOINT_RAND_LEN).value; }
+static void valid_sq_norm_equal(void) { taken += pine_valid_sq_norm_equal(param, 2, measurement, full).value; }
+static void gradient_part(void) { taken += pine_gradient_part(param, measurement, full).len; }
+static void checked_part(void) { taken += pine_checked_part(param, measurement, full).len; }
+static void results_part(void) { taken += pine_results_part(param, measurement, full).len; }
+static void empty_aggregate(void) { taken += pine_empty_aggregate(param, other, d).number; }
+static void accumulate(void) { taken += pine_accumulate(param, other, d, elements, d).number; }
+static void merge(void) { taken += pine_merge(param, other, d, elements, d).number; }
+static void unshard(void) { taken += pine_unshard(param, elements, d, other, d, decoded, d).number; }
+
+static const struct {
+    const char *name;
+    void (*call)(void);
+} calls[] = {
+    {"check_param", check_param},
+    {"derive", derive},
+    {"f64_to_field", f64_to_field},
+    {"field_to_f64", field_to_f64},
+    {"encode_with_wr_joint_rand", encode},
+    {"run_wr_tests", run_wr_tests},
+    {"valid", valid},
+    {"valid_sq_norm_equal", valid_sq_norm_equal},
+    {"gradient_part", gradient_part},
+    {"checked_part", checked_part},
+    {"results_part", results_part},
+    {"empty_aggregate", empty_aggregate},
+    {"accumulate", accumulate},
+    {"merge", merge},
+    {"unshard", unshard},
+};
+enum { CALLS = sizeof calls / sizeof *calls };
+
+int main(void) {
+    size_t most[CALLS] = {0};
+    size_t base = measure(nothing);
+    static const uint64_t dimensions[] = {1, 2, 3, 4, 5, 15, 16, 17, 64, 1000, 65536};
+    static const uint64_t numbers_of_tests[] = {1, 2, 9, 100, 256};
+    for (size_t k = 0; k < sizeof dimensions / sizeof *dimensions; k++) {
+        for (size_t l = 0; l < sizeof numbers_of_tests / sizeof *numbers_of_tests; l++) {
+            for (int wrong = 0; wrong < 4; wrong++) {
+                uint64_t t = numbers_of_tests[l];
+                PineParam p = {1u << 16, dimensions[k], 8, 1 + k, 7, t, t};
+                param = p;
+                derived = pine_derive(param);
+                if (derived.answer.number != 0) {
+                    continue;
+                }
+                d = (size_t)param.dimension, tests = (size_t)t, encoded = (size_t)derived.pine.encoded_input_len;
+                full = (size_t)derived.pine.input_len, stream_len = (size_t)derived.stream_len;
+                gradient = (double *)calloc(d, 8), decoded = (double *)calloc(d, 8);
+                elements = (uint64_t *)calloc(d, 8), other = (uint64_t *)calloc(d, 8);
+                measurement = (uint64_t *)calloc(full, 8), results = (uint64_t *)calloc(tests, 8);
+                stream = (uint8_t *)calloc(stream_len, 1);
+                for (size_t i = 0; i < d; i++) {
+                    gradient[i] = (double)(i % 3) / 4;
+                    elements[i] = i * i;
+                }
+                for (size_t i = 0; i < stream_len; i++) {
+                    stream[i] = (uint8_t)(i * 37);
+                }
+                /* refused by 8 and 12, by 4, by 7 */
+                if (wrong == 1) {
+                    gradient[d - 1] = 1e-310;
+                    elements[d - 1] = measurement[full - 1] = PINE_FIELD_MODULUS;
+                } else if (wrong == 2) {
+                    param.frac_bits = 31;
+                } else if (wrong == 3) {
+                    d--, full--;
+                }
+                for (size_t c = 0; c < CALLS; c++) {
+                    size_t used = measure(calls[c].call) - base;
+                    most[c] = used > most[c] ? used : most[c];
+                }
+                free(gradient), free(decoded), free(elements), free(other), free(measurement), free(results), free(stream);
+            }
+        }
+    }
+    for (size_t c = 0; c < CALLS; c++) {
+        printf("%-26s %5zu bytes of stack\n", calls[c].name, most[c]);
+    }
+    return taken == 1;
+}
