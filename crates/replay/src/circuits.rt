@@ -34,12 +34,7 @@ fn valid_in(
     }
     let n = full_row.len;
     let m = joint_rand_row.len;
-    let circuit = flp::validity::valid(
-        read.param,
-        num_shares.value,
-        &full[0..n],
-        &joint_rand[0..m],
-    );
+    let circuit = validity::valid(read.param, num_shares.value, &full[0..n], &joint_rand[0..m]);
     answer_circuit(out, at, circuit)
 }
 
@@ -62,7 +57,7 @@ fn valideq_in(line: &[u8], c: Cursor, out: &mut [u8], at: usize, full: &mut [u64
         return bad(out, at);
     }
     let n = full_row.len;
-    let circuit = flp::validity::valid_sq_norm_equal(read.param, num_shares.value, &full[0..n]);
+    let circuit = validity::valid_sq_norm_equal(read.param, num_shares.value, &full[0..n]);
     answer_circuit(out, at, circuit)
 }
 

@@ -20,7 +20,7 @@ fn answer_encode(
 ) -> usize {
     rows::fill(measurement);
     rows::fill(results);
-    let answer = flp::encode_with_wr_joint_rand(param, gradient, stream, measurement, results);
+    let answer = encode::encode_with_wr_joint_rand(param, gradient, stream, measurement, results);
     if answer.number == 0 {
         ok_two_rows(out, at, measurement, results)
     } else {
@@ -96,7 +96,7 @@ fn answer_wrtests(
     results: &mut [u64],
 ) -> usize {
     rows::fill(results);
-    let answer = flp::run_wr_tests(param, gradient, stream, results);
+    let answer = wr_tests::run_wr_tests(param, gradient, stream, results);
     if answer.number == 0 {
         ok_elements(out, at, results)
     } else {
