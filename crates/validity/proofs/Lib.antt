@@ -2,5 +2,5 @@
 mod Chunks
 mod Turns
 mod TestTurns
-pub mod Verdicts
+mod Verdicts
 mod Cut
