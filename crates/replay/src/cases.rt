@@ -1,59 +1,18 @@
 // The commands: what each reads of its line, and what it answers.
+use crate::aggregates;
+use crate::answers::answer_hex;
+use crate::answers::bad;
+use crate::answers::refused;
+use crate::circuits;
+use crate::inputs::read_param;
 use crate::patterns::double_of;
 use crate::patterns::pattern_of;
 use crate::print;
+use crate::reports;
 use crate::words;
 use crate::words::Cursor;
-use pine::PineParam;
 use pine::record::Lengths;
 use pine::record::Pine;
-use rules::Answer;
-
-struct ReadParam {
-    param: PineParam,
-    next: Cursor,
-}
-
-pub fn bad(out: &mut [u8], at: usize) -> usize {
-    print::text(out, at, b"bad\n")
-}
-
-fn refused(out: &mut [u8], at: usize, answer: Answer) -> usize {
-    let to = print::decimal(out, at, b"refused ", answer.number);
-    let to = print::decimal(out, to, b" ", answer.place);
-    print::text(out, to, b"\n")
-}
-
-// The refusal, or `ok` and one hexadecimal number.
-fn answer_hex(out: &mut [u8], at: usize, answer: Answer, n: u64, width: usize) -> usize {
-    if answer.number != 0 {
-        return refused(out, at, answer);
-    }
-    let to = print::hex(out, at, b"ok ", n, width);
-    print::text(out, to, b"\n")
-}
-
-// The seven inputs.
-fn read_param(line: &[u8], c: Cursor) -> ReadParam {
-    let norm_bound = words::decimal(line, c);
-    let dimension = words::decimal(line, norm_bound.next);
-    let frac_bits = words::decimal(line, dimension.next);
-    let chunk_len = words::decimal(line, frac_bits.next);
-    let chunk_len_sq_norm_equal = words::decimal(line, chunk_len.next);
-    let num_wr_tests = words::decimal(line, chunk_len_sq_norm_equal.next);
-    let num_wr_successes = words::decimal(line, num_wr_tests.next);
-    let next = num_wr_successes.next;
-    let param = PineParam {
-        norm_bound: norm_bound.value,
-        dimension: dimension.value,
-        frac_bits: frac_bits.value,
-        chunk_len: chunk_len.value,
-        chunk_len_sq_norm_equal: chunk_len_sq_norm_equal.value,
-        num_wr_tests: num_wr_tests.value,
-        num_wr_successes: num_wr_successes.value,
-    };
-    ReadParam { param, next }
-}
 
 fn put_bounds(out: &mut [u8], at: usize, pine: Pine) -> usize {
     let to = print::hex(out, at, b" sq_norm_bound ", pine.sq_norm_bound, 1);
@@ -130,6 +89,40 @@ fn decode(line: &[u8], c: Cursor, out: &mut [u8], at: usize) -> usize {
     answer_hex(out, at, decoded.answer, pattern_of(decoded.value), 16)
 }
 
+// The commands on a report and on the circuits.
+fn of_reports(name: &[u8], line: &[u8], c: Cursor, out: &mut [u8], at: usize) -> usize {
+    if check::same(name, b"encode") {
+        return reports::encode(line, c, out, at);
+    }
+    if check::same(name, b"wrtests") {
+        return reports::wrtests(line, c, out, at);
+    }
+    if check::same(name, b"valid") {
+        return circuits::valid(line, c, out, at);
+    }
+    if check::same(name, b"valideq") {
+        return circuits::valideq(line, c, out, at);
+    }
+    bad(out, at)
+}
+
+// The commands on aggregates, and those above.
+fn of_aggregates(name: &[u8], line: &[u8], c: Cursor, out: &mut [u8], at: usize) -> usize {
+    if check::same(name, b"merge") {
+        return aggregates::adding(line, c, out, at, true);
+    }
+    if check::same(name, b"accumulate") {
+        return aggregates::adding(line, c, out, at, false);
+    }
+    if check::same(name, b"aggregate") {
+        return aggregates::aggregate(line, c, out, at);
+    }
+    if check::same(name, b"unshard") {
+        return aggregates::unshard(line, c, out, at);
+    }
+    of_reports(name, line, c, out, at)
+}
+
 // Answers a line.
 pub fn answer(line: &[u8], out: &mut [u8], at: usize) -> usize {
     let w = words::next_word(line, Cursor::new());
@@ -152,5 +145,5 @@ pub fn answer(line: &[u8], out: &mut [u8], at: usize) -> usize {
     if check::same(name, b"decode") {
         return decode(line, c, out, at);
     }
-    bad(out, at)
+    of_aggregates(name, line, c, out, at)
 }

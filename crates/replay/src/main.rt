@@ -2,9 +2,15 @@
 // or `bad` for a malformed case. Blank lines and lines that begin with # have no answer.
 use libc::STDIN_FILENO;
 
+mod aggregates;
+mod answers;
 mod cases;
+mod circuits;
+mod inputs;
 mod patterns;
 mod print;
+mod reports;
+mod rows;
 mod words;
 
 ghost use mathlib.Core.Path.{_≡_};
@@ -105,7 +111,7 @@ fn too_long(answered: Answered, out: &mut [u8]) -> Progress
     let at = if answered.skipping {
         answered.at
     } else {
-        cases::bad(out, answered.at)
+        answers::bad(out, answered.at)
     };
     Progress {
         have: 0,

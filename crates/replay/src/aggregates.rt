@@ -1,0 +1,235 @@
+// The commands on aggregates.
+use crate::answers::bad;
+use crate::answers::ok_doubles;
+use crate::answers::ok_elements;
+use crate::answers::refused_lent;
+use crate::inputs::read_param;
+use crate::rows;
+use crate::words;
+use crate::words::Cursor;
+use pine::PineParam;
+use rules::Answer;
+
+// An answer, and whether the aggregate was left as it was.
+struct Sum {
+    answer: Answer,
+    kept: bool,
+}
+
+fn merge_or_accumulate(param: PineParam, agg: &mut [u64], share: &[u64], merging: bool) -> Answer {
+    if merging {
+        vdaf::merge(param, agg, share)
+    } else {
+        vdaf::accumulate(param, agg, share)
+    }
+}
+
+// Adds a row. `before` has room for the aggregate as it was.
+fn add(param: PineParam, agg: &mut [u64], share: &[u64], before: &mut [u64], merging: bool) -> Sum {
+    rows::copy(agg, before);
+    let answer = merge_or_accumulate(param, agg, share, merging);
+    Sum {
+        answer,
+        kept: rows::begins(before, agg),
+    }
+}
+
+fn answer_sum(out: &mut [u8], at: usize, sum: Sum, agg: &[u64]) -> usize {
+    let answer = sum.answer;
+    if answer.number == 0 {
+        ok_elements(out, at, agg)
+    } else {
+        refused_lent(out, at, answer, sum.kept)
+    }
+}
+
+fn adding_in(
+    line: &[u8],
+    c: Cursor,
+    out: &mut [u8],
+    at: usize,
+    merging: bool,
+    agg: &mut [u64],
+    share: &mut [u64],
+    before: &mut [u64],
+) -> usize {
+    let read = read_param(line, c);
+    let agg_row = words::elements(line, read.next, agg);
+    let share_row = words::elements(line, agg_row.next, share);
+    if !words::ends(line, share_row.next) {
+        return bad(out, at);
+    }
+    let n = agg_row.len;
+    let m = share_row.len;
+    let sum = add(read.param, &mut agg[0..n], &share[0..m], before, merging);
+    answer_sum(out, at, sum, &agg[0..n])
+}
+
+// merge or accumulate.
+pub fn adding(line: &[u8], c: Cursor, out: &mut [u8], at: usize, merging: bool) -> usize {
+    let mut agg = [0u64; 8192];
+    let mut share = [0u64; 8192];
+    let mut before = [0u64; 8192];
+    adding_in(line, c, out, at, merging, &mut agg, &mut share, &mut before)
+}
+
+// Reads so many rows, one over the other.
+fn pass_rows(line: &[u8], c: Cursor, count: u64, row: &mut [u64]) -> Cursor {
+    let mut next = c;
+    let mut i = 0;
+    while i < count && next.ok {
+        let read = words::elements(line, next, row);
+        next = read.next;
+        i += 1;
+    }
+    next
+}
+
+// Adds so many rows of the line, as far as they are accepted.
+fn add_rows(
+    param: PineParam,
+    line: &[u8],
+    c: Cursor,
+    count: u64,
+    agg: &mut [u64],
+    before: &mut [u64],
+    row: &mut [u64],
+) -> Sum {
+    let mut next = c;
+    let mut i = 0;
+    while i < count {
+        let read = words::elements(line, next, row);
+        let n = read.len;
+        let sum = add(param, agg, &row[0..n], before, false);
+        let answer = sum.answer;
+        if answer.number != 0 {
+            return sum;
+        }
+        next = read.next;
+        i += 1;
+    }
+    Sum {
+        answer: Answer::accepted(),
+        kept: true,
+    }
+}
+
+// The empty aggregate, and so many rows added to it.
+fn sum_of(
+    param: PineParam,
+    line: &[u8],
+    c: Cursor,
+    count: u64,
+    agg: &mut [u64],
+    before: &mut [u64],
+    row: &mut [u64],
+) -> Sum {
+    rows::fill(agg);
+    let answer = vdaf::empty_aggregate(param, agg);
+    if answer.number != 0 {
+        return Sum {
+            answer,
+            kept: rows::is_filled(agg),
+        };
+    }
+    add_rows(param, line, c, count, agg, before, row)
+}
+
+fn aggregate_in(
+    line: &[u8],
+    c: Cursor,
+    out: &mut [u8],
+    at: usize,
+    agg: &mut [u64],
+    before: &mut [u64],
+    row: &mut [u64],
+) -> usize {
+    let read = read_param(line, c);
+    let count = words::decimal(line, read.next);
+    let next = pass_rows(line, count.next, count.value, row);
+    let derived = pine::derive(read.param);
+    let mut lens = [derived.pine.dimension];
+    if !words::ends_with_lens(line, next, &mut lens) {
+        return bad(out, at);
+    }
+    let len = lens[0];
+    if len > agg.len() as u64 {
+        return bad(out, at);
+    }
+    let n = len as usize;
+    let sum = sum_of(
+        read.param,
+        line,
+        count.next,
+        count.value,
+        &mut agg[0..n],
+        before,
+        row,
+    );
+    answer_sum(out, at, sum, &agg[0..n])
+}
+
+pub fn aggregate(line: &[u8], c: Cursor, out: &mut [u8], at: usize) -> usize {
+    let mut agg = [0u64; 8192];
+    let mut before = [0u64; 8192];
+    let mut row = [0u64; 8192];
+    aggregate_in(line, c, out, at, &mut agg, &mut before, &mut row)
+}
+
+fn answer_unshard(
+    param: PineParam,
+    out: &mut [u8],
+    at: usize,
+    left: &[u64],
+    right: &[u64],
+    decoded: &mut [f64],
+) -> usize {
+    rows::fill_doubles(decoded);
+    let answer = vdaf::unshard(param, left, right, decoded);
+    if answer.number == 0 {
+        ok_doubles(out, at, decoded)
+    } else {
+        refused_lent(out, at, answer, rows::is_filled_doubles(decoded))
+    }
+}
+
+fn unshard_in(
+    line: &[u8],
+    c: Cursor,
+    out: &mut [u8],
+    at: usize,
+    left: &mut [u64],
+    right: &mut [u64],
+    decoded: &mut [f64],
+) -> usize {
+    let read = read_param(line, c);
+    let left_row = words::elements(line, read.next, left);
+    let right_row = words::elements(line, left_row.next, right);
+    let derived = pine::derive(read.param);
+    let mut lens = [derived.pine.dimension];
+    if !words::ends_with_lens(line, right_row.next, &mut lens) {
+        return bad(out, at);
+    }
+    let len = lens[0];
+    if len > decoded.len() as u64 {
+        return bad(out, at);
+    }
+    let n = len as usize;
+    let l = left_row.len;
+    let r = right_row.len;
+    answer_unshard(
+        read.param,
+        out,
+        at,
+        &left[0..l],
+        &right[0..r],
+        &mut decoded[0..n],
+    )
+}
+
+pub fn unshard(line: &[u8], c: Cursor, out: &mut [u8], at: usize) -> usize {
+    let mut left = [0u64; 8192];
+    let mut right = [0u64; 8192];
+    let mut decoded = [0.0f64; 8192];
+    unshard_in(line, c, out, at, &mut left, &mut right, &mut decoded)
+}

@@ -1,0 +1,237 @@
+"""Cases on aggregates: merge, accumulate, aggregate, unshard; and lists of such calls."""
+
+import itertools
+from typing import Callable, NamedTuple
+
+from common import (BROKEN, HALF, INPUTS, OK, P, TOP, Case, Inputs, Kind, below, changed, combined, damage, draw_small,
+                    element, elements, faults, first, first_rule, lent, near, refused, resized, rule_7, rule_12, vec)
+from singles import TOPS, tie
+
+
+def adding(kind, inputs, agg, share):
+    """merge or accumulate. The aggregate is argument and result, so no other row is lent."""
+    want = first(refused(first_rule(*inputs)), rule_7((len(agg), inputs.d), (len(share), inputs.d)), rule_12(agg, share))
+    return Case(kind, f"{kind} {inputs} {vec(agg)} {vec(share)}", want)
+
+
+def aggregate(inputs, rows, out=()):
+    """The empty aggregate, then each row added to it: what the first refused call says."""
+    row = out[0] if out else inputs.d
+    want = first(refused(first_rule(*inputs)), rule_7((row, inputs.d)))
+    agg = [0] * inputs.d if want == OK else []
+    want = first(want, *(first(rule_7((len(agg), inputs.d), (len(share), inputs.d)), rule_12(agg, share)) for share in rows))
+    return Case("aggregate", f"aggregate {inputs} {' '.join([str(len(rows)), *map(vec, rows)])}{lent(out)}", want)
+
+
+def unshard(inputs, left, right, out=()):
+    decoded = out[0] if out else inputs.d
+    want = first(refused(first_rule(*inputs)), rule_7(*((n, inputs.d) for n in (len(left), len(right), decoded))),
+                 rule_12(left, right))
+    return Case("unshard", f"unshard {inputs} {vec(left)} {vec(right)}{lent(out)}", want)
+
+
+# Sums where the sign, the digits of a double or the field turn.
+SUMS = (0, 1, HALF - 1, HALF, HALF + 1, HALF + 2, 2**53 - 1, 2**53, 2**53 + 1, 2**53 + 2, 2**53 + 3, 2**54 + 2, 2**54 + 6,
+        P - 2**53 - 3, P - 2**53 - 1, P - 2**53, P - 2, P - 1)
+
+
+def completed(rng, left):
+    """An element whose sum with the first is one that matters, or any."""
+    way = below(rng, 4)
+    if way == 0:
+        return (near(rng, rng.choice(SUMS)) - left) % P
+    if way == 1:
+        total = tie(54 + below(rng, 10), rng.choice(TOPS), below(rng, 3) - 1)
+        return (rng.choice((total, -total)) - left) % P
+    return element(rng)
+
+
+def two_rows(rng, inputs, wrong):
+    """Two rows of d elements, with the faults named."""
+    length = inputs.d if inputs.d <= 64 else 3
+    left = elements(rng, length)
+    rows = [left, [completed(rng, x) for x in left]]
+    for name in wrong:
+        if name in ("left", "right"):
+            i = ("left", "right").index(name)
+            rows[i] = resized(rng, rows[i], element)
+        elif name == "element":
+            i = below(rng, 2)
+            rows[i] = damage(rng, rows[i])
+    return rows
+
+
+def other_len(rng, length):
+    return rng.choice([n for n in (0, length - 1, length + 1, length + 4, 2 * length) if 0 <= n != length])
+
+
+def draw_out(rng, inputs, lengths, wrong):
+    """The lent rows' lengths: derived, and most often not named; wrong; or any, where the inputs are refused anyway."""
+    lengths = list(lengths)
+    if first_rule(*inputs):
+        return [below(rng, 13) for _ in lengths] if rng.getrandbits(1) else []
+    if wrong:
+        i = below(rng, len(lengths))
+        lengths[i] = other_len(rng, lengths[i])
+        return lengths
+    return lengths if below(rng, 8) == 0 else []
+
+
+def draw_adding(kind):
+    def draw(rng):
+        wrong = faults(rng, [*INPUTS, "left", "right", "element", "element"])
+        inputs = draw_small(rng, wrong)
+        return adding(kind, inputs, *two_rows(rng, inputs, wrong))
+    return draw
+
+
+def draw_aggregate(rng):
+    wrong = faults(rng, [*INPUTS, "row", "row", "element", "element", "out"])
+    inputs = draw_small(rng, wrong)
+    length = inputs.d if inputs.d <= 64 else 3
+    rows = [elements(rng, length) for _ in range(below(rng, 6))]
+    for name in wrong:
+        if name == "row" and rows:
+            i = below(rng, len(rows))
+            rows[i] = resized(rng, rows[i], element)
+        elif name == "element" and rows:
+            i = below(rng, len(rows))
+            rows[i] = damage(rng, rows[i])
+    return aggregate(inputs, rows, draw_out(rng, inputs, (inputs.d,), "out" in wrong))
+
+
+def draw_unshard(rng):
+    wrong = faults(rng, [*INPUTS, "left", "right", "element", "element", "out"])
+    inputs = draw_small(rng, wrong)
+    return unshard(inputs, *two_rows(rng, inputs, wrong), draw_out(rng, inputs, (inputs.d,), "out" in wrong))
+
+
+# Lists of calls
+
+class Call(NamedTuple):
+    case: Callable[[list], Case]    # of the aggregates as they stand before the call
+    writes: int | None              # which of them an accepted call makes anew
+
+
+def begin(rng, d, i):
+    inputs = draw_small(rng, d=d)
+    return Call(lambda rows: aggregate(inputs, []), i)
+
+
+def draw_call(rng, d, many):
+    """A call on so many aggregates of d elements."""
+    wrong = faults(rng, [*INPUTS, "dimension", "share", "element"]) if below(rng, 3) == 0 else []
+    inputs = draw_small(rng, wrong, d=d + 1 + below(rng, 3) if "dimension" in wrong else d)
+    i = below(rng, many)
+    j = (i + 1 + below(rng, many - 1)) % many
+    way = below(rng, 16)
+    if way == 0:
+        out = (d + 1,) if "share" in wrong else (d,)
+        return Call(lambda rows: aggregate(inputs, [], out), i)
+    if way < 5:
+        return Call(lambda rows: adding("merge", inputs, rows[i], rows[j]), i)
+    if way < 7:
+        j = j if rng.getrandbits(1) else i
+        return Call(lambda rows: unshard(inputs, rows[i], rows[j], (d,)), None)
+    share = elements(rng, d)
+    if "share" in wrong:
+        share = resized(rng, share, element)
+    if "element" in wrong:
+        share = damage(rng, share)
+    return Call(lambda rows: adding("accumulate", inputs, rows[i], share), i)
+
+
+# Fixed cases
+
+PLAIN = Inputs(5, 3, 2, 2, 2, 2, 1)
+ROW = [1, P - 1, 2**53]
+
+
+def limits_adding(kind):
+    def limits():
+        short, long, over = ROW[:2], ROW + [7], [5, P, TOP]
+        for changes in combined((*BROKEN, {"agg": short}, {"share": long}, {"over": True})):
+            inputs = changed(PLAIN, changes)
+            agg, share = changes.get("agg", ROW), changes.get("share", ROW)
+            yield adding(kind, inputs, agg, share)
+            if "over" in changes:
+                yield adding(kind, inputs, agg, over + share[3:])
+                yield adding(kind, inputs, over[:len(agg)], share)
+        for a, b in itertools.product((0, 1, HALF, HALF + 1, P - 1, P, TOP), repeat=2):
+            yield adding(kind, PLAIN._replace(d=1), [a], [b])
+        for d in range(1, 10):
+            yield adding(kind, PLAIN._replace(d=d), [P - 1 - i for i in range(d)], [i for i in range(d)])
+        for m, k in itertools.product((0, 2, 3, 4), repeat=2):
+            yield adding(kind, PLAIN, [1] * m, [2] * k)
+    return limits
+
+
+def limits_aggregate():
+    for changes in combined((*BROKEN, {"out": (2,)}, {"row": 1}, {"over": True})):
+        inputs = changed(PLAIN, changes)
+        rows = [ROW, ROW + [7] if "row" in changes else ROW, [1, TOP, P] if "over" in changes else ROW]
+        yield aggregate(inputs, rows, changes.get("out", ()))
+        yield aggregate(inputs, rows[::-1], changes.get("out", ()))
+    for many, d in itertools.product(range(6), (1, 2, 4, 9)):
+        yield aggregate(PLAIN._replace(d=d), [[P - 1 - i for i in range(d)]] * many)
+    for length in (0, 1, 2, 4, 8):
+        yield aggregate(PLAIN, [], (length,))
+    for x in (P - 1, P, TOP):
+        for i in range(3):
+            yield aggregate(PLAIN, [ROW, [x if i == j else 0 for j in range(3)]], (3,))
+    yield aggregate(PLAIN._replace(d=65536), [[1]], (1,))
+    yield aggregate(PLAIN._replace(d=300), [[P - 1] * 300] * 2)
+
+
+def limits_unshard():
+    for changes in combined((*BROKEN, {"left": ROW[:2]}, {"right": ROW + [7]}, {"out": (4,)}, {"over": True})):
+        inputs = changed(PLAIN, changes)
+        left, right, out = changes.get("left", ROW), changes.get("right", ROW), changes.get("out", ())
+        yield unshard(inputs, left, right, out)
+        if "over" in changes:
+            yield unshard(inputs, left, [0, P, TOP] + right[3:], out)
+            yield unshard(inputs, [0, TOP, P][:len(left)], right, out)
+    for f in (0, 1, 15, 30):
+        for total in SUMS:
+            for left in (0, 1, HALF, P - 1):
+                yield unshard(PLAIN._replace(d=1, f=f), [left], [(total - left) % P])
+    for a, b in itertools.product((0, 1, P - 1, P, TOP), repeat=2):
+        yield unshard(PLAIN._replace(d=1), [a], [b], (1,))
+    for d in range(1, 10):
+        yield unshard(PLAIN._replace(d=d), [HALF - i for i in range(d)], [2 * i for i in range(d)])
+    for lengths in itertools.product((2, 3, 4), repeat=3):
+        yield unshard(PLAIN, [1] * lengths[0], [2] * lengths[1], lengths[2:])
+    yield unshard(PLAIN._replace(d=65536), [1], [2], (3,))
+    yield unshard(PLAIN._replace(d=300), [P - 1] * 300, [1] * 300)
+
+
+def long_rows(d):
+    return [[(k + i) * 0x9e3779b97f4a7c15 % P for i in range(d)] for k in range(3)]
+
+
+def sweep_adding(kind):
+    return lambda: (adding(kind, PLAIN._replace(d=d), *long_rows(d)[:2]) for d in (4095, 4096, 8192))
+
+
+def sweep_aggregate():
+    for d in (4095, 4096, 8192):
+        yield aggregate(PLAIN._replace(d=d), long_rows(d))
+
+
+def sweep_unshard():
+    for d in (4095, 4096, 8192):
+        yield unshard(PLAIN._replace(d=d), *long_rows(d)[:2])
+    for f, total in itertools.product(range(31), SUMS):
+        for left in (0, 1, 2**63, HALF, P - 1):
+            yield unshard(PLAIN._replace(d=1, f=f), [left], [(total - left) % P])
+    for f, length, top, off in itertools.product((0, 7, 30), range(54, 64), TOPS, (-1, 0, 1)):
+        for total in (tie(length, top, off), -tie(length, top, off)):
+            yield unshard(PLAIN._replace(d=2, f=f), [HALF, P - 1], [(total - HALF) % P, (total + 1) % P])
+
+
+KINDS = {
+    "merge": Kind(draw_adding("merge"), limits_adding("merge"), sweep_adding("merge"), drawn=30),
+    "accumulate": Kind(draw_adding("accumulate"), limits_adding("accumulate"), sweep_adding("accumulate"), drawn=30),
+    "aggregate": Kind(draw_aggregate, limits_aggregate, sweep_aggregate, drawn=60),
+    "unshard": Kind(draw_unshard, limits_unshard, sweep_unshard, drawn=60),
+}

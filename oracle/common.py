@@ -1,0 +1,335 @@
+"""What the kinds of case share: document 01's limits, lengths and rules, and ways to draw numbers and rows.
+
+Lengths, and what rules 10 and 11 ask, are worked out here from document 01 and used for refusals only.
+"""
+
+import itertools
+import math
+import random
+import struct
+from typing import Callable, Iterable, NamedTuple
+
+P = 2**64 - 2**32 + 1
+HALF = (P - 1) // 2
+TOP = 2**64 - 1
+
+OK = "ok"
+BAD = "bad"
+NONE = ""
+
+
+class Case(NamedTuple):
+    kind: str
+    line: str
+    want: str
+
+
+class Kind(NamedTuple):
+    draw: Callable[[random.Random], Case]
+    limits: Callable[[], Iterable[Case]] = lambda: ()
+    sweep: Callable[[], Iterable[Case]] = lambda: ()
+    drawn: int = 80     # so many in the gate's list
+
+
+# Whole numbers and their limits
+
+INPUTS = "ndfceTK"
+LIMITS = {"n": (1, 3037000499), "d": (1, 65536), "f": (0, 30), "c": (1, 65536), "e": (1, 65536), "T": (1, 256)}
+
+# Where a narrower or a signed number would go wrong, or the original's shift does.
+WIDE = (127, 128, 255, 256, 2**16, 2**31 - 1, 2**31, 2**32 - 1, 2**32, 2**32 + 1, 2**53 - 1, 2**53, 2**53 + 1,
+        HALF, HALF + 1, 2**63 - 1, 2**63, 2**63 + 1, P - 1, P, TOP - 1, TOP)
+
+
+def within(name, x):
+    low, high = LIMITS[name]
+    return low <= x <= high
+
+
+def clamp(x, low, high):
+    return min(max(x, low), high)
+
+
+def below(rng, n):
+    """A random number below a small n: several times as fast as randrange."""
+    return int(rng.random() * n)
+
+
+def near(rng, x):
+    return clamp(x + below(rng, 5) - 2, 0, TOP)
+
+
+def allowed(rng, name):
+    """A number within its limits: an edge, by a power of two, of any length, or any."""
+    low, high = LIMITS[name]
+    way = below(rng, 4)
+    if way == 0:
+        return rng.choice((low, low + 1, high - 1, high))
+    if way == 1:
+        return clamp(near(rng, 1 << below(rng, high.bit_length())), low, high)
+    if way == 2:
+        return clamp(rng.getrandbits(1 + below(rng, high.bit_length())), low, high)
+    return rng.randint(low, high)
+
+
+def broken(rng, name):
+    """A number outside its limits: just outside, one that looks right in its low half, by a wide one, or any."""
+    low, high = LIMITS[name]
+    while True:
+        way = below(rng, 5)
+        if way == 0:
+            x = rng.choice((max(low - 1, 0), high + 1, high + 2, 2 * high))
+        elif way == 1:
+            x = (rng.getrandbits(32) << 32) + rng.randint(low, high)
+        elif way == 2:
+            x = near(rng, rng.choice(WIDE))
+        elif way == 3:
+            x = near(rng, 1 << below(rng, 64))
+        else:
+            x = rng.getrandbits(1 + below(rng, 64))
+        if not within(name, x):
+            return x
+
+
+# The seven inputs, and what document 01 derives from them
+
+class Inputs(NamedTuple):
+    n: int
+    d: int
+    f: int
+    c: int
+    e: int
+    T: int
+    K: int
+
+    def __str__(self):
+        return " ".join(map(str, self))
+
+
+class Sizes(NamedTuple):
+    bound: int          # B
+    bits: int           # q
+    test_bound: int     # b
+    test_bits: int      # w
+    checked: int        # L
+    per_test: int       # bytes of the stream
+    stream: int
+    measurement: int
+    full: int
+
+
+def sizes(inputs):
+    n, d, t = inputs.n, inputs.d, inputs.T
+    bits = (n * n).bit_length()
+    test_bound = 1 << (-(-87 * n // 10)).bit_length()
+    test_bits = (2 * test_bound - 1).bit_length()
+    checked = 2 * bits + (1 + test_bits) * t
+    per_test = -(-d // 4)
+    return Sizes(n * n, bits, test_bound, test_bits, checked, per_test, t * per_test, d + checked, d + checked + t)
+
+
+# The last n before n x n gets one more binary digit or the test bound doubles, and the first n after.
+STEPS = sorted({n for k in range(64) for last in (math.isqrt(2**k - 1), 10 * (2**k - 1) // 87)
+                for n in (last, last + 1) if within("n", n)})
+
+
+def chunk(rng, length):
+    """A chunk length: any, or near a part of the row that it cuts."""
+    if rng.getrandbits(1):
+        return allowed(rng, "c")
+    return clamp(near(rng, length // (1 + below(rng, 69))), *LIMITS["c"])
+
+
+def successes(rng, t, wrong):
+    if wrong:
+        k = rng.choice((t + 1, t + 2, 2 * t + 1, t + 2**32, TOP, t + 1 + rng.getrandbits(rng.randrange(1, 64))))
+    else:
+        k = clamp(rng.choice((0, 1, t - 1, t, rng.randint(0, t))), 0, t)
+    return min(k, TOP)
+
+
+def draw_inputs(rng, wrong=""):
+    """Seven inputs, of which those named in `wrong` break their rule."""
+    def pick(name):
+        return broken(rng, name) if name in wrong else allowed(rng, name)
+    n = rng.choice(STEPS) if "n" not in wrong and below(rng, 3) == 0 else pick("n")
+    d, f, t = pick("d"), pick("f"), pick("T")
+    length = sizes(Inputs(n, d, f, 1, 1, t, 0)).checked if rng.getrandbits(1) else t
+    c = broken(rng, "c") if "c" in wrong else chunk(rng, length)
+    e = broken(rng, "e") if "e" in wrong else chunk(rng, d)
+    return Inputs(n, d, f, c, e, t, successes(rng, t, "K" in wrong))
+
+
+# Outside the limits, and still no more than the original can find memory for.
+OUTSIDE = {"n": (0, 3037000500, 2**32 - 1, 2**32, 2**63, TOP), "d": (0, 0, 0, 65537), "f": (31, 32, 33, 64, 127, 128, TOP),
+           "c": (0, 0, 65537), "e": (0, 0, 65537), "T": (0, 0, 257)}
+
+
+def draw_small(rng, wrong=(), d=0, n=0):
+    """As draw_inputs, with few coordinates and tests, for a call that has rows; d and n may be given."""
+    n = rng.choice(OUTSIDE["n"]) if "n" in wrong else n or (rng.choice(STEPS) if rng.getrandbits(1) else allowed(rng, "n"))
+    if "d" in wrong:
+        d = rng.choice(OUTSIDE["d"])
+    elif not d:
+        d = 1 + below(rng, 9 if below(rng, 4) else 24)
+    f = rng.choice(OUTSIDE["f"]) if "f" in wrong else below(rng, 31) if rng.getrandbits(1) else 0
+    t = rng.choice(OUTSIDE["T"]) if "T" in wrong else 1 + below(rng, 3 if below(rng, 4) else 9)
+    checked = sizes(Inputs(n, d, f, 1, 1, t, 0)).checked
+    c = rng.choice(OUTSIDE["c"]) if "c" in wrong else small_chunk(rng, (checked, checked, t))
+    e = rng.choice(OUTSIDE["e"]) if "e" in wrong else small_chunk(rng, (d,))
+    return Inputs(n, d, f, c, e, t, successes(rng, t, "K" in wrong))
+
+
+def small_chunk(rng, lengths):
+    """A chunk length by the lengths that it cuts: 1, all, one more, a part that leaves a short chunk; rarely a long one."""
+    length = rng.choice(lengths)
+    way = below(rng, 64)
+    if way == 0:
+        return rng.choice((65535, 65536))
+    if way < 12:
+        return 1
+    if way < 24:
+        return clamp(near(rng, length), *LIMITS["c"])
+    return clamp(near(rng, length // (1 + below(rng, 9))), *LIMITS["c"])
+
+
+# Rules
+
+# Each of rules 1 to 6 broken by one input, or two for rule 5.
+BROKEN = ({"K": 300}, {"n": 0}, {"d": 0}, {"f": 31}, {"c": 0}, {"e": 65537}, {"T": 257})
+
+
+def refused(rule, place=0):
+    return f"refused {rule} {place}" if rule else OK
+
+
+def first_rule(n, d, f, c, e, t, k):
+    """The first of rules 1 to 6 that the seven inputs break, 0 for none."""
+    if k > t:
+        return 1
+    if not within("n", n):
+        return 2
+    if not within("d", d):
+        return 3
+    if not within("f", f):
+        return 4
+    if not (within("c", c) and within("e", e)):
+        return 5
+    if not within("T", t):
+        return 6
+    return 0
+
+
+def rule_7(*rows):
+    """From the length that each row has and the one it must have, which is None for the gradient of doubles."""
+    for place, (length, derived) in enumerate(rows, 1):
+        if derived is not None and length != derived:
+            return refused(7, place)
+    return OK
+
+
+def rule_12(*rows):
+    at = 0
+    for row in rows:
+        for x in row:
+            if x >= P:
+                return refused(12, at)
+            at += 1
+    return OK
+
+
+def rule_13(num_shares):
+    return OK if 0 < num_shares < 256 else refused(13)
+
+
+def first(*answers):
+    return next((answer for answer in answers if answer != OK), OK)
+
+
+# Words
+
+def vec(row):
+    return " ".join([str(len(row)), *map("{:x}".format, row)])
+
+
+def patterns(row):
+    return " ".join([str(len(row)), *map("{:016x}".format, row)])
+
+
+def octets(stream):
+    return stream.hex() or "-"
+
+
+def lent(out):
+    """The lengths of lent rows, where a case names them."""
+    return " out " + " ".join(map(str, out)) if out else ""
+
+
+# Doubles
+
+EXPONENT = 0x7ff << 52
+SIGN = 1 << 63
+
+
+def bits_of(x):
+    return struct.unpack("<Q", struct.pack("<d", x))[0]
+
+
+def usable(bits):
+    """Whether a double is a zero or normal."""
+    return 0 < bits & EXPONENT < EXPONENT or bits in (0, SIGN)
+
+
+# Elements
+
+ELEMENTS = (0, 1, 2, P - 1, P - 2, HALF - 1, HALF, HALF + 1, 2**31, 2**32 - 1, 2**32, 2**32 + 1,
+            2**53 - 1, 2**53, 2**53 + 1, 2**63 - 1, 2**63)
+NOT_ELEMENTS = (P, P + 1, P + 2**31, TOP - 1, TOP)
+
+
+def element(rng):
+    way = below(rng, 4)
+    if way == 0:
+        return rng.choice(ELEMENTS)
+    if way == 1:
+        return (below(rng, 2001) - 1000) % P
+    if way == 2:
+        return rng.getrandbits(1 + below(rng, 64)) % P
+    return rng.randrange(P)
+
+
+def elements(rng, length):
+    return [element(rng) for _ in range(length)]
+
+
+def damage(rng, row):
+    """The row with one element, or a few, that are not below p."""
+    row = list(row)
+    for _ in range(1 + below(rng, 2) if row else 0):
+        row[below(rng, len(row))] = rng.choice(NOT_ELEMENTS)
+    return row
+
+
+def resized(rng, row, more):
+    """The row with another length; `more` draws what it lacks."""
+    row, length = list(row), len(row)
+    other = rng.choice((0, length - 1, length - 1, length + 1, length + 1, length + 4, 2 * length + 1))
+    other = other if 0 <= other != length else length + 1
+    return (row + [more(rng) for _ in range(other - length)])[:other]
+
+
+def combined(faulty):
+    """The changes for each fault alone, for each two of them, and for all at once."""
+    for many in (1, 2, len(faulty)):
+        for chosen in itertools.combinations(faulty, many):
+            yield dict(itertools.chain.from_iterable(fault.items() for fault in chosen))
+
+
+def changed(inputs, changes):
+    """The inputs with those changes that are of inputs."""
+    return inputs._replace(**{name: x for name, x in changes.items() if name in INPUTS})
+
+
+def faults(rng, names):
+    """Which faults a drawn case has: none, one, two or three of these."""
+    return rng.sample(names, rng.choice((0, 0, 0, 0, 0, 0, 1, 1, 2, 3)))
