@@ -10,12 +10,13 @@ use lib.Dec.{eqb}
 use borrow.Author.Tests.{eq-eqb, ne-eqb, eqb-true}
 use Rattle.rules.specs.declared.Answer.{Answer}
 use Rattle.rules.specs.Rules.{answer, inOrder}
+use Rattle.rules.proofs.Chain.{passed}
 use Rattle.pine.specs.declared.PineParam.{PineParam}
 use Rattle.pine.specs.Param.{Field64}
 use Rattle.pine.specs.Record.{bitCheckedLen, encodedInputLen, inputLen}
 use Rattle.pine.specs.Outcome.{Outcome, outcome, finish}
+use Rattle.pine.proofs.Lengths.{row-right}
 use Rattle.flp.specs.Circuits.{gradientPart, checkedPart, resultsPart, partRules, partOf, gradientPartOf, checkedPartOf, resultsPartOf}
-use Rattle.flp.proofs.Verdicts.{part-met}
 use Rattle.pine_c.specs.declared.Part.{Part}
 use Rattle.pine_c.specs.Places.{partAt, named}
 
@@ -71,7 +72,8 @@ both full whole x y r e f h =
 -- each part, as the call under it hands it back
 module _ (i : PineParam) (full : List ℕ) (a : Answer) (part : List ℕ) (r : Part) where
   long : inOrder (partRules Field64 i full) .number ≡ 0 → length full ≡ inputLen i
-  long z = part-met i full z .long
+  unfolding partRules
+  long z = row-right 1 (length full) (inputLen i) (passed (partRules Field64 i full) z .1 .0)
 
   pub gradient-placed : outcome a part ≡ gradientPartOf Field64 i full → r ≡ partAt a 0 (length part) → (r ≡ partAt (inOrder (partRules Field64 i full)) 0 (i .dimension)) × (named r full ≡ gradientPartOf Field64 i full)
   unfolding gradientPartOf partOf gradientPart inputLen encodedInputLen

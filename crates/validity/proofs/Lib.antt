@@ -2,5 +2,5 @@
 mod Chunks
 mod Turns
 mod TestTurns
-mod Verdicts
+pub mod Verdicts
 mod Cut
