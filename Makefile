@@ -1,13 +1,18 @@
 # Thin: each target is one command.
-.PHONY: test demo differential lib example attack
+.PHONY: test demo differential bench lib example attack
 
 # the gate: .ci/run runs this
 test:
 	rt ci
 
-# the runs against the original Rust; ORACLE is the folder that its build wrote (oracle/README.md)
+# the runs against the original Rust in both profiles; ORACLE is the folder in which it was built
+# (oracle/README.md); SEED and COUNT, if set, draw other cases
 differential:
 	oracle/differential
+
+# times beside the original's, with ORACLE as above, in docs/BENCHMARKS.md; OUT: where to build
+bench:
+	oracle/bench/run --write docs/BENCHMARKS.md
 
 # target/staticlib/libpine_c.a, with its header beside it (docs/C.md)
 lib:

@@ -1,26 +1,16 @@
 //! A table of rows: each says how to make fresh inputs, and the ways to work on them. A repetition makes inputs,
 //! takes the ways in turn, each on a copy of its own that was just written, and compares what they give.
-//! Further calls are further rows in `table`.
+//! `calls` has the rows of the calls, `leaves` those of the leaf functions.
 
 mod by_hand;
+mod calls;
+mod leaves;
 
-use pine_oracle::pine::{f64_to_field_row, sum_of_decoded};
-use prio_draft09::field::{Field64, FieldElement};
+use prio_draft09::field::Field64;
 use std::{
     hint::black_box,
-    time::{Instant, SystemTime},
+    time::{Duration, Instant, SystemTime},
 };
-
-#[link(name = "leaves", kind = "static")]
-extern "C" {
-    fn leaves_products(a: *mut u64, an: usize, b: *const u64, bn: usize) -> u64;
-    fn leaves_chain(x: u64, row: *const u64, n: usize) -> u64;
-    fn leaves_running_sum_of_products(a: *const u64, an: usize, b: *const u64, bn: usize) -> u64;
-    fn leaves_sum_of_products(a: *const u64, an: usize, b: *const u64, bn: usize) -> u64;
-    fn leaves_sums(a: *mut u64, an: usize, b: *const u64, bn: usize) -> u64;
-    fn leaves_elements(xs: *const f64, xn: usize, f: u64, out: *mut u64, on: usize) -> u64;
-    fn leaves_sum_of_decoded(ys: *const u64, n: usize, f: u64) -> f64;
-}
 
 const SIZES: [usize; 2] = [1000, 65536];
 const FRAC_BITS: u64 = 20;
@@ -48,63 +38,21 @@ impl Random {
             }
         }
     }
-}
 
-/// What a way took, in nanoseconds, and gave.
-type Run = (f64, Vec<u64>);
-type Way<S> = (&'static str, fn(&S) -> Run);
-
-fn timed<R>(f: impl FnOnce() -> R) -> (f64, R) {
-    let t = Instant::now();
-    let r = black_box(f());
-    (t.elapsed().as_nanos() as f64, r)
-}
-
-struct Row {
-    name: String,
-    elements: usize,
-    ways: Vec<&'static str>,
-    /// One repetition, beginning with the way of that number: the times, by way.
-    repeat: Box<dyn Fn(&mut Random, usize) -> Vec<f64>>,
-}
-
-fn row<S: 'static>(
-    name: &str,
-    elements: usize,
-    fresh: impl Fn(&mut Random, usize) -> S + 'static,
-    ways: Vec<Way<S>>,
-) -> Row {
-    Row {
-        name: name.into(),
-        elements,
-        ways: ways.iter().map(|w| w.0).collect(),
-        repeat: Box::new(move |random, first| {
-            let inputs = fresh(random, elements);
-            let mut times = vec![0.0; ways.len()];
-            let mut given: Option<Vec<u64>> = None;
-            for k in 0..ways.len() {
-                let at = (first + k) % ways.len();
-                let (ns, gave) = ways[at].1(&inputs);
-                times[at] = ns;
-                match &given {
-                    Some(g) => assert!(*g == gave, "{} gives something else", ways[at].0),
-                    None => given = Some(gave),
-                }
-            }
-            times
-        }),
+    fn elements(&mut self, n: usize) -> Vec<u64> {
+        (0..n).map(|_| self.element()).collect()
     }
-}
 
-struct Pair {
-    a: Vec<u64>,
-    b: Vec<u64>,
-}
+    fn bytes(&mut self, n: usize) -> Vec<u8> {
+        let mut bytes: Vec<u8> = (0..n.div_ceil(8)).flat_map(|_| self.next().to_le_bytes()).collect();
+        bytes.truncate(n);
+        bytes
+    }
 
-fn pair(random: &mut Random, n: usize) -> Pair {
-    Pair {
-        a: (0..n).map(|_| random.element()).collect(),
-        b: (0..n).map(|_| random.element()).collect(),
+    /// A gradient with a norm of about 1/2, of both signs.
+    fn gradient(&mut self, n: usize) -> Vec<f64> {
+        let largest = 0.9 / (n as f64).sqrt();
+        (0..n).map(|_| (self.unit() * 2.0 - 1.0) * largest).collect()
     }
 }
 
@@ -116,181 +64,123 @@ fn words(row: &[Field64]) -> Vec<u64> {
     row.iter().map(|x| u64::from(*x)).collect()
 }
 
-/// A way that changes a by b.
-fn in_place(s: &Pair, f: impl FnOnce(&mut [u64], &[u64])) -> Run {
-    let (mut a, b) = (s.a.clone(), s.b.clone());
-    let ns = timed(|| f(&mut a, &b)).0;
-    (ns, a)
+/// What a way took, in nanoseconds, and gave.
+type Run = (f64, Vec<u64>);
+type Way<S> = fn(&S) -> Run;
+
+#[repr(C)]
+struct Timespec {
+    seconds: i64,
+    nanoseconds: i64,
 }
 
-fn in_place_original(s: &Pair, f: impl FnOnce(&mut [Field64], &[Field64])) -> Run {
-    let (mut a, b) = (fields(&s.a), fields(&s.b));
-    let ns = timed(|| f(&mut a, &b)).0;
-    (ns, words(&a))
+extern "C" {
+    fn clock_gettime(clock: i32, now: *mut Timespec) -> i32;
 }
 
-/// A way that makes one number of both.
-fn to_one(s: &Pair, f: impl FnOnce(&[u64], &[u64]) -> u64) -> Run {
-    let (a, b) = (s.a.clone(), s.b.clone());
-    let (ns, r) = timed(|| f(&a, &b));
-    (ns, vec![r])
+/// The processor time of this thread, in nanoseconds.
+fn thread_time() -> i64 {
+    const CLOCK_THREAD_CPUTIME_ID: i32 = 3;
+    let mut now = Timespec { seconds: 0, nanoseconds: 0 };
+    assert_eq!(unsafe { clock_gettime(CLOCK_THREAD_CPUTIME_ID, &mut now) }, 0);
+    now.seconds * 1_000_000_000 + now.nanoseconds
 }
 
-fn to_one_original(s: &Pair, f: impl FnOnce(&[Field64], &[Field64]) -> Field64) -> Run {
-    let (a, b) = (fields(&s.a), fields(&s.b));
-    let (ns, r) = timed(|| f(&a, &b));
-    (ns, vec![u64::from(r)])
+/// The lesser of the time on the wall and the thread's processor time: the second leaves out what other programs
+/// took, and has some hundred nanoseconds for the asking, which the first has not.
+fn timed<R>(f: impl FnOnce() -> R) -> (f64, R) {
+    let thread = thread_time();
+    let wall = Instant::now();
+    let r = black_box(f());
+    let wall = wall.elapsed().as_nanos() as f64;
+    (wall.min((thread_time() - thread) as f64), r)
 }
 
-/// x * 2^f from 2^-6 to 2^10 in size, of both signs.
-fn mixed(random: &mut Random, n: usize) -> Vec<f64> {
-    let coordinate = |r: &mut Random| {
-        let size = (r.unit() * 16.0 - 6.0 - FRAC_BITS as f64).exp2();
-        if r.next() % 2 == 0 {
-            size
-        } else {
-            -size
-        }
-    };
-    (0..n).map(|_| coordinate(random)).collect()
+struct Row {
+    name: String,
+    length: usize,
+    /// What the time is divided by: how many of what.
+    count: usize,
+    of: &'static str,
+    ways: usize,
+    /// One repetition, beginning with the way of that number: the times, by way.
+    repeat: Box<dyn Fn(&mut Random, usize) -> Vec<f64>>,
 }
 
-/// A gradient with a norm of about 1/2.
-fn gradient(random: &mut Random, n: usize) -> Vec<f64> {
-    let largest = 0.9 / (n as f64).sqrt();
-    (0..n).map(|_| (random.unit() * 2.0 - 1.0) * largest).collect()
-}
-
-fn to_elements(xs: &[f64], f: impl FnOnce(&[f64], &mut [u64])) -> Run {
-    let (xs, mut out) = (xs.to_vec(), vec![1; xs.len()]);
-    let ns = timed(|| f(&xs, &mut out)).0;
-    (ns, out)
-}
-
-fn conversions() -> Vec<Way<Vec<f64>>> {
-    vec![
-        ("original", |xs| {
-            let (xs, mut out) = (xs.clone(), vec![Field64::one(); xs.len()]);
-            let scale = (1u64 << FRAC_BITS) as f64;
-            let ns = timed(|| f64_to_field_row(&xs, scale, &mut out).unwrap()).0;
-            (ns, words(&out))
-        }),
-        ("by hand", |xs| {
-            to_elements(xs, |xs, out| {
-                assert!(by_hand::elements(xs, (1u64 << FRAC_BITS) as f64, out));
-            })
-        }),
-        ("ours", |xs| {
-            to_elements(xs, |xs, out| unsafe {
-                assert_eq!(leaves_elements(xs.as_ptr(), xs.len(), FRAC_BITS, out.as_mut_ptr(), out.len()), 1);
-            })
-        }),
-    ]
-}
-
-/// Field numbers of either sign, below 2^30 in size.
-fn aggregate(random: &mut Random, n: usize) -> Vec<u64> {
-    let element = |r: &mut Random| {
-        let size = r.next() >> 34;
-        if r.next() % 2 == 0 {
-            size
-        } else {
-            by_hand::P - 1 - size
-        }
-    };
-    (0..n).map(|_| element(random)).collect()
-}
-
-fn table() -> Vec<Row> {
-    let mut rows = Vec::new();
-    for n in SIZES {
-        rows.push(row("products, in place", n, pair, vec![
-            ("original", |s| in_place_original(s, |a, b| {
-                for (x, y) in a.iter_mut().zip(b) {
-                    *x *= *y;
+/// The ways are the original, the project and, if there is a third, Rust by hand.
+fn row<S: 'static>(
+    name: impl Into<String>,
+    length: usize,
+    (count, of): (usize, &'static str),
+    fresh: impl Fn(&mut Random) -> S + 'static,
+    ways: Vec<Way<S>>,
+) -> Row {
+    let name = name.into();
+    Row {
+        name: name.clone(),
+        length,
+        count,
+        of,
+        ways: ways.len(),
+        repeat: Box::new(move |random, first| {
+            let inputs = fresh(random);
+            let mut times = vec![0.0; ways.len()];
+            let mut given: Option<Vec<u64>> = None;
+            for k in 0..ways.len() {
+                let at = (first + k) % ways.len();
+                let (ns, gave) = ways[at](&inputs);
+                times[at] = ns;
+                match &given {
+                    Some(g) => assert!(*g == gave, "{name}: way {at} gives something else"),
+                    None => given = Some(gave),
                 }
-            })),
-            ("by hand", |s| in_place(s, by_hand::products)),
-            ("ours", |s| in_place(s, |a, b| unsafe {
-                assert_eq!(leaves_products(a.as_mut_ptr(), a.len(), b.as_ptr(), b.len()), 1);
-            })),
-        ]));
-        rows.push(row("a chain of products", n, pair, vec![
-            ("original", |s| to_one_original(s, |a, b| b.iter().fold(a[0], |x, y| x * *y))),
-            ("by hand", |s| to_one(s, |a, b| by_hand::chain(a[0], b))),
-            ("ours", |s| to_one(s, |a, b| unsafe { leaves_chain(a[0], b.as_ptr(), b.len()) })),
-        ]));
-        rows.push(row("running sum of products", n, pair, vec![
-            ("original", |s| to_one_original(s, |a, b| a.iter().zip(b).fold(Field64::zero(), |t, (x, y)| t + *x * *y))),
-            ("by hand", |s| to_one(s, by_hand::sum_of_products)),
-            ("ours", |s| to_one(s, |a, b| unsafe {
-                leaves_running_sum_of_products(a.as_ptr(), a.len(), b.as_ptr(), b.len())
-            })),
-        ]));
-        rows.push(row("the same, reduced once", n, pair, vec![
-            ("original, as above", |s| to_one_original(s, |a, b| a.iter().zip(b).fold(Field64::zero(), |t, (x, y)| t + *x * *y))),
-            ("by hand", |s| to_one(s, by_hand::sum_of_products_lazy)),
-            ("ours", |s| to_one(s, |a, b| unsafe {
-                leaves_sum_of_products(a.as_ptr(), a.len(), b.as_ptr(), b.len())
-            })),
-        ]));
-        rows.push(row("sums, in place", n, pair, vec![
-            ("original", |s| in_place_original(s, |a, b| {
-                for (x, y) in a.iter_mut().zip(b) {
-                    *x += *y;
-                }
-            })),
-            ("by hand", |s| in_place(s, by_hand::sums)),
-            ("ours, after a scan of both", |s| in_place(s, |a, b| unsafe {
-                assert_eq!(leaves_sums(a.as_mut_ptr(), a.len(), b.as_ptr(), b.len()), 1);
-            })),
-        ]));
-        rows.push(row("f64_to_field, sizes mixed", n, mixed, conversions()));
-        rows.push(row("f64_to_field, a gradient", n, gradient, conversions()));
-        rows.push(row("field_to_f64, added up", n, aggregate, vec![
-            ("original", |ys| {
-                let (row, scale) = (fields(ys), (1u64 << FRAC_BITS) as f64);
-                let (ns, sum) = timed(|| sum_of_decoded(&row, scale).unwrap());
-                (ns, vec![sum.to_bits()])
-            }),
-            ("by hand", |ys| {
-                let (row, scale) = (ys.clone(), (1u64 << FRAC_BITS) as f64);
-                let (ns, sum) = timed(|| by_hand::sum_of_decoded(&row, scale));
-                (ns, vec![sum.to_bits()])
-            }),
-            ("ours, after a scan", |ys| {
-                let row = ys.clone();
-                let (ns, sum) = timed(|| unsafe { leaves_sum_of_decoded(row.as_ptr(), row.len(), FRAC_BITS) });
-                (ns, vec![sum.to_bits()])
-            }),
-        ]));
+            }
+            times
+        }),
     }
-    rows
+}
+
+/// Three digits.
+fn short(x: f64) -> String {
+    let places = if x < 1.0 { 3 } else if x < 10.0 { 2 } else if x < 100.0 { 1 } else { 0 };
+    format!("{x:.places$}")
+}
+
+fn line(cells: [&str; 7]) {
+    let [name, length, of, original, ours, by_hand, ratio] = cells;
+    println!("| {name:<43} | {length:>6} | {of:<15} | {original:<22} | {ours:<22} | {by_hand:<7} | {ratio:>15} |");
+}
+
+/// The times of a row for each of its elements, by way, in order: for three seconds, but not too few and not too many.
+fn measure(row: &Row, random: &mut Random) -> Vec<Vec<f64>> {
+    let mut times = vec![Vec::new(); row.ways];
+    let begin = Instant::now();
+    for i in 0..2001 {
+        if i >= 31 && begin.elapsed() > Duration::from_secs(3) {
+            break;
+        }
+        for (all, ns) in times.iter_mut().zip((row.repeat)(random, i)) {
+            all.push(ns / row.count as f64);
+        }
+    }
+    for all in &mut times {
+        all.sort_by(f64::total_cmp);
+    }
+    times
 }
 
 fn main() {
     let only = std::env::args().nth(1).unwrap_or_default();
-    let rows: Vec<Row> = table().into_iter().filter(|r| r.name.contains(&only)).collect();
+    let rows = calls::table().into_iter().chain(leaves::table()).filter(|r| r.name.contains(&only));
     let mut random = Random(SystemTime::UNIX_EPOCH.elapsed().unwrap().as_nanos() as u64);
-    println!("{:<27}{:>7}  {:<28}{:>8}  {:<15}  {:>6}", "row", "length", "way", "median", "quartiles", "/ ours");
-    println!("{:<27}{:>7}  {:<28}{:>8}  {:<15}", "", "", "", "ns an element", "");
+    line(["row", "length", "ns for each", "original", "ours", "by hand", "original / ours"]);
+    line(["---", "---:", "---", "---", "---", "---", "---:"]);
     for row in rows {
-        let repetitions = (6_000_000 / row.elements).clamp(61, 2001);
-        let mut times = vec![Vec::new(); row.ways.len()];
-        for i in 0..repetitions {
-            for (all, ns) in times.iter_mut().zip((row.repeat)(&mut random, i)) {
-                all.push(ns / row.elements as f64);
-            }
-        }
-        for all in &mut times {
-            all.sort_by(f64::total_cmp);
-        }
-        let at = |all: &[f64], quarters: usize| all[(all.len() - 1) * quarters / 4];
-        let ours = at(&times[row.ways.len() - 1], 2);
-        for (i, (way, all)) in row.ways.iter().zip(&times).enumerate() {
-            let (name, length) = if i == 0 { (row.name.as_str(), row.elements.to_string()) } else { ("", String::new()) };
-            let spread = format!("{:.2} to {:.2}", at(all, 1), at(all, 3));
-            println!("{name:<27}{length:>7}  {way:<28}{:>8.2}  {spread:<15}  {:>6.2}", at(all, 2), at(all, 2) / ours);
-        }
+        let times = measure(&row, &mut random);
+        let at = |way: usize, quarters: usize| times[way][(times[way].len() - 1) * quarters / 4];
+        let cell = |way| format!("{} ({} to {})", short(at(way, 2)), short(at(way, 1)), short(at(way, 3)));
+        let by_hand = if row.ways > 2 { short(at(2, 2)) } else { String::new() };
+        let ratio = format!("{:.2}", at(0, 2) / at(1, 2));
+        line([&row.name, &row.length.to_string(), row.of, &cell(0), &cell(1), &by_hand, &ratio]);
     }
 }
