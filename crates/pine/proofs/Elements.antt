@@ -2,18 +2,19 @@
 use mathlib.Core.Path.{_≡_, refl, sym, ap, _∙_}
 use mathlib.Core.Bool.{Bool, true, false, cond}
 use mathlib.Core.List.{List, [], _∷_, _++_}
-use Prim.Native.Nat.{ℕ, zero, suc, _+_, _/_, _^_, _≤_, _<_}
+use Prim.Native.Nat.{ℕ, zero, suc, _+_, _-_, _/_, _%_, _^_, _≤_, _<_}
 use native.Mathlib.Nat.{zero-add}
 use native.Mathlib.Numerals.{add-one}
 use native.Mathlib.Omega.{arith}
 use lib.ListN.{length, getD, take, drop, length-append}
 use lib.Seq.{drop-cons}
 use lib.Dec.{ltb, eqb}
+use lib.Bits.{bitAnd, bitOr, and-shr, and-self, and-le-l, and-le-r, or-add-and}
 use borrow.Author.Tests.{lt-ltb, le-ltb, ltb-true, ltb-false}
 use Rattle.rules.specs.Rules.{accepted, first}
 use Rattle.rules.proofs.Chain.{not-so}
 use Rattle.field64.specs.Field.{p64}
-use Rattle.pine.specs.Rows.{firstBad, elementsFrom, elementsRule, Below, highHalves}
+use Rattle.pine.specs.Rows.{firstBad, elementsFrom, elementsRule, Below}
 
 -- ---- rows whose elements are below n
 
@@ -115,15 +116,32 @@ right-elements p k xs f = rw (le-ltb (firstBad p xs) (length xs) (omega (arith, 
 pub elements-below : (p k : ℕ) (xs : List ℕ) → elementsFrom p k xs .number ≡ 0 → Below p xs
 elements-below p k xs h = all-below p xs (ltb-false _ _ (not-so (ltb (firstBad p xs) (length xs)) 11 (k + firstBad p xs) h))
 
--- ---- in Field64, a word that is not below p has an upper half of 2 ^ 32 - 1
-pub no-high : (xs : List ℕ) → highHalves xs ≡ 0 → Below p64 xs
-no-high [] e = tt
-no-high (x ∷ xs) e = (omega arith, no-high xs (omega arith))
+-- ---- in Field64: an element that is not below p wraps when 2 ^ 32 - 1 is added
 
-pub high-one : (x : ℕ) → x < 2 ^ 64 → (x / 2 ^ 32 + 1) / 2 ^ 32 ≤ 1
-high-one x h = omega arith
+pub no-carry : (x s : ℕ) → x < 2 ^ 64 → s ≡ (x + 4294967295) % 2 ^ 64 → bitAnd x (18446744073709551615 - s) < 2 ^ 63 → x < p64
+no-carry x s h w k = go (ltb x p64) refl
+  where
+    go : (t : Bool) → ltb x p64 ≡ t → x < p64
+    go true e = ltb-true x p64 e
+    go false e =
+        let l : p64 ≤ x = ltb-false x p64 e in
+        let a : x / 2 ^ 63 ≡ 1 = omega arith in
+        let b : (18446744073709551615 - s) / 2 ^ 63 ≡ 1 = omega arith in
+        let o : bitAnd x (18446744073709551615 - s) / 2 ^ 63 ≡ bitAnd 1 1 = and-shr x _ 63 ∙ rw (a, b) in
+        absurd (omega (arith, o ∙ and-self 1))
 
-pub high-next : (xs : List ℕ) (i : ℕ) → i < length xs → highHalves (drop i xs) ≡ (getD xs i 0 / 2 ^ 32 + 1) / 2 ^ 32 + highHalves (drop (i + 1) xs)
-high-next xs i h =
-    let d : drop i xs ≡ getD xs i 0 ∷ drop (i + 1) xs = rw (add-one, drop-cons xs i 0) in
-    rw d
+pub or-left : (a b : ℕ) → a ≤ bitOr a b
+or-left a b = omega (arith, or-add-and a b, and-le-r a b)
+
+pub or-right : (a b : ℕ) → b ≤ bitOr a b
+or-right a b = omega (arith, or-add-and a b, and-le-l a b)
+
+-- one element more
+pub below-next : (n : ℕ) (xs : List ℕ) (i : ℕ) → ((j : ℕ) → j < i → getD xs j 0 < n) → getD xs i 0 < n → (j : ℕ) → j < i + 1 → getD xs j 0 < n
+below-next n xs i f h j k = go (ltb j i) refl
+  where
+    go : (t : Bool) → ltb j i ≡ t → getD xs j 0 < n
+    go true e = f j (ltb-true j i e)
+    go false e =
+        let s : j ≡ i = omega (arith, ltb-false j i e) in
+        rw s h

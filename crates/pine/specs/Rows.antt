@@ -1,5 +1,5 @@
 -- Rows of numbers modulo p, and the rules that every call tests on its rows. Assumes nothing.
-use Prim.Native.Nat.{ℕ, suc, _+_, _/_, _^_, _<_}
+use Prim.Native.Nat.{ℕ, suc, _+_, _<_}
 use mathlib.Core.Bool.{cond}
 use mathlib.Core.List.{List, [], _∷_}
 use lib.ListN.{length}
@@ -35,8 +35,3 @@ abbrev pub addRows : (p : ℕ) → List ℕ → List ℕ → List ℕ
 addRows p [] ys = []
 addRows p (x ∷ xs) [] = []
 addRows p (x ∷ xs) (y ∷ ys) = addMod p x y ∷ addRows p xs ys
-
--- how many words have an upper half of 2 ^ 32 - 1, as those not below Field64's modulus do
-abbrev pub highHalves : List ℕ → ℕ
-highHalves [] = 0
-highHalves (x ∷ xs) = (x / 2 ^ 32 + 1) / 2 ^ 32 + highHalves xs

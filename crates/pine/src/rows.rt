@@ -5,7 +5,7 @@ ghost use mathlib.Core.Path.{_≡_};
 ghost use Prim.Native.Nat.{_+_, _<_, _^_};
 ghost use lib.ListN.{length, replicate};
 ghost use Rattle.field64.specs.Field.{p64};
-ghost use Rattle.pine.specs.Rows.{rowRule, firstBad, elementsFrom, highHalves};
+ghost use Rattle.pine.specs.Rows.{rowRule, firstBad, elementsFrom, Below};
 
 // Rule 7, of the row at a place.
 pub fn check_len(place: u64, len: usize, expected: u64) -> Answer
@@ -21,18 +21,21 @@ pub fn check_len(place: u64, len: usize, expected: u64) -> Answer
     }
 }
 
-// How many elements have an upper half of 2^32 - 1: none below p has. The loop has no branch on the
-// data, so that it runs on vectors.
-fn high_halves(row: &[u64]) -> u64
-    ensures { λ r. ⌜ r ≡ highHalves (now (row .entry)) ⌝ }
+// 2^63 or more where an element is not below p: adding 2^32 - 1 to such an element wraps, and of the
+// two numbers only the element has its highest bit. The loop has no branch on the data, so that it
+// runs on vectors.
+fn carries(row: &[u64]) -> u64
+    ensures { λ r. ⌜ (r < 2 ^ 63 → Below p64 (now (row .entry))) ⌝ }
 {
-    let mut count = 0;
+    let mut seen: u64 = 0;
     let mut i = 0;
     while i < row.len() {
-        count += ((row[i] >> 32) + 1) >> 32;
+        let x = row[i];
+        let sum = std::num::wrapping_add_u64(x, 0xffff_ffff);
+        seen = seen | (x & (u64::MAX - sum));
         i += 1;
     }
-    count
+    seen
 }
 
 // The index of the first element that is not below p, or the length where there is none.
@@ -49,11 +52,11 @@ fn search(row: &[u64]) -> usize
     i
 }
 
-// The same: a row with no high half has none, and only another is searched.
+// The same: only a row with a carry is searched.
 fn first_bad(row: &[u64]) -> usize
     ensures { λ r. ⌜ r ≡ firstBad p64 (now (row .entry)) ⌝ }
 {
-    if high_halves(row) == 0 {
+    if carries(row) < 1 << 63 {
         return row.len();
     }
     search(row)

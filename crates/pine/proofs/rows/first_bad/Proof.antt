@@ -1,18 +1,18 @@
 -- `pine::rows::first_bad` meets its contract. Assumes nothing.
 use borrow.Author.Needs.{needs}
-use mathlib.Core.Path.{sym, _∙_}
+use mathlib.Core.Path.{sym}
 use Rattle.field64.specs.Field.{p64}
-use Rattle.pine.proofs.Elements.{none-bad, no-high}
+use Rattle.pine.proofs.Elements.{none-bad}
 use Rattle.pine.proofs.rows.first_bad.Statement.{statement}
 use Rattle.pine.proofs.rows.first_bad.Tie as tie
 
-high-halves-requires : tie.Need-high-halves-requires
-high-halves-requires c κs = search needs
+carries-requires : tie.Need-carries-requires
+carries-requires c κs = search needs
 
 returns : tie.Need-returns
 returns c =
     let row = c .before .before .before .args .row .now in
-    sym (none-bad p64 row (no-high row (sym (c .before .high-halves .ensures) ∙ c .if1 .taken)))
+    sym (none-bad p64 row (c .before .carries .ensures (c .if1 .taken)))
 
 search-requires : tie.Need-search-requires
 search-requires c κs = search needs
@@ -21,4 +21,4 @@ returns-2 : tie.Need-returns-2
 returns-2 c = search needs
 
 pub first-bad-spec : {M : Type 1} → statement M
-first-bad-spec = tie.close (tie.spec high-halves-requires returns search-requires returns-2)
+first-bad-spec = tie.close (tie.spec carries-requires returns search-requires returns-2)
