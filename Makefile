@@ -5,6 +5,10 @@
 test:
 	rt ci
 
+# the tutorial: two controllers of valves, two servers, a day's reports
+demo:
+	rt check demo && target/bin/demo
+
 # the runs against the original Rust; ORACLE is the folder that its build wrote (oracle/README.md)
 differential:
 	oracle/differential
