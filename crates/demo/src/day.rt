@@ -1,5 +1,6 @@
 // A day: a report of each key, made, tested and filed.
 use crate::filing;
+use crate::made_up;
 use crate::report;
 use crate::rows;
 use rules::Answer;
@@ -261,12 +262,13 @@ pub fn second(left: &mut [u64], right: &mut [u64]) -> Counts {
     )
 }
 
-// A damaged share: an element that is p is no field number. Each call refuses the share, and the
-// aggregate stays as it was.
+// A damaged report: in the left share of a key an element is p, which is no field number. The tests
+// and the aggregate refuse it, and the aggregate stays as it was.
 pub fn damaged(left: &mut [u64], key: usize) -> Answer
     requires { ⌜ key < 24 ⌝ }
 {
     let mut share = [0u64; 96];
+    made_up::elements(made_up::seed(key, made_up::CUT), &mut share);
     share[2] = field64::P;
     let mut results = [0u64; 4];
     let tested = report::test(key, &share, &mut results);

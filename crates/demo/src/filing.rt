@@ -6,7 +6,9 @@ use crate::report::param;
 use crate::report::short;
 use crate::rows;
 use rules::Answer;
-ghost use Prim.Native.Nat.{_<_};
+ghost use Prim.Native.Nat.{_<_, _≤_};
+
+pub const VALVES: usize = 12;
 
 pub const KEYS: usize = 24;
 
@@ -61,4 +63,47 @@ pub fn is_true(left: &[u64], right: &[u64], key: usize) -> bool
     made_up::gradient(key, &mut gradient);
     let answer = read(left, right, key, &mut decoded);
     answer.number == 0 && rows::same_doubles(&decoded, &gradient)
+}
+
+// Adds the aggregate of a key to that of its controller.
+fn merge_key(total: &mut [u64], aggregates: &[u64], key: usize) -> Answer
+    requires { ⌜ key < 24 ⌝ }
+{
+    let start = key * DIMENSION;
+    let end = start + DIMENSION;
+    if aggregates.len() < end {
+        return short();
+    }
+    vdaf::merge(param(), total, &aggregates[start..end])
+}
+
+// 7. A server merges aggregates: here those of a controller's valves, from the first key on.
+pub fn merge_valves(total: &mut [u64], aggregates: &[u64], first: usize) -> Answer
+    requires { ⌜ first ≤ 12 ⌝ }
+{
+    let mut answer = vdaf::empty_aggregate(param(), total);
+    let mut valve = 0;
+    while valve < VALVES {
+        answer = answer.or(merge_key(total, aggregates, first + valve));
+        valve += 1;
+    }
+    answer
+}
+
+// Adds the gradient of a key to a true sum.
+fn add_gradient(sum: &mut [f64], key: usize) {
+    let mut gradient = [0.0f64; 4];
+    made_up::gradient(key, &mut gradient);
+    rows::add_doubles(sum, &gradient);
+}
+
+// The true sum over a controller's valves.
+pub fn add_gradients(sum: &mut [f64], first: usize)
+    requires { ⌜ first ≤ 12 ⌝ }
+{
+    let mut valve = 0;
+    while valve < VALVES {
+        add_gradient(sum, first + valve);
+        valve += 1;
+    }
 }

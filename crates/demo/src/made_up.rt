@@ -3,7 +3,7 @@
 ghost use Prim.Native.Nat.{_<_};
 ghost use Rattle.field64.specs.Field.{p64};
 
-// What a generator is for: each key has one of each.
+// What a generator is for. Each key has one for each, so that a report can be made again.
 pub const GRADIENT: u64 = 1;
 
 pub const STREAM: u64 = 2;
@@ -15,7 +15,7 @@ pub const JOINT_RAND: u64 = 4;
 pub fn seed(key: usize, what: u64) -> u64 {
     let a = field64::mul(key as u64, 0x9e37_79b9_7f4a_7c15);
     let b = field64::mul(what, 0xbf58_476d_1ce4_e5b9);
-    next(std::num::wrapping_add_u64(a, b))
+    next(next(next(std::num::wrapping_add_u64(a, b))))
 }
 
 pub fn next(state: u64) -> u64 {

@@ -1,5 +1,5 @@
 // A day on the farm, as a tutorial of the library: two controllers with twelve valves each, a report
-// of each valve, two servers. report.rt and filing.rt have the steps of a report, numbered 1 to 6.
+// of each valve, two servers. report.rt and filing.rt have the steps of a report, numbered 1 to 7.
 mod day;
 mod filing;
 mod made_up;
@@ -55,6 +55,7 @@ fn main() {
         print::text(b"the parameters derive other lengths than these rows have\n");
         return;
     }
+    print::text(b"d 4, f 6, n 400, T 4, K 4: a measurement has 96 elements, a full share 100\n");
     let mut left = [0u64; 96];
     let mut right = [0u64; 96];
     first_day(&mut left, &mut right);

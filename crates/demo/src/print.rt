@@ -43,15 +43,22 @@ fn sixty_fourths(n: u64) {
     digit(millionths);
 }
 
+// In columns: a space before a number below 10.
+fn signed(sign: &[u8], n: u64) {
+    if n < 640 {
+        text(b" ");
+    }
+    text(sign);
+    sixty_fourths(n);
+}
+
 // A multiple of 1/64, which as an element with 6 fractional bits is a number of 64ths. The upper
 // half of the elements are the negative numbers.
 pub fn double(x: f64) {
     let n = doubles::f64_to_field(x, 6).element;
     if n <= field64::P / 2 {
-        text(b" ");
-        sixty_fourths(n);
+        signed(b" ", n);
     } else {
-        text(b"-");
-        sixty_fourths(field64::neg(made_up::element(n)));
+        signed(b"-", field64::neg(made_up::element(n)));
     }
 }

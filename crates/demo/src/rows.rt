@@ -30,6 +30,15 @@ pub fn add(left: &[u64], right: &[u64], all: &mut [u64]) {
     }
 }
 
+// Adds row to sum.
+pub fn add_doubles(sum: &mut [f64], row: &[f64]) {
+    let mut i = 0;
+    while i < sum.len() && i < row.len() {
+        sum[i] = sum[i] + row[i];
+        i += 1;
+    }
+}
+
 pub fn same(a: &[u64], b: &[u64]) -> bool {
     if a.len() != b.len() {
         return false;

@@ -6,10 +6,10 @@ use Rattle.demo.proofs.table.print.Statement.{statement}
 use Rattle.demo.proofs.table.print.Tie as tie
 
 abbrev Inv-loop : tie.InvT-loop
-Inv-loop left right valve₀ valve = (valve ≤ 12)
+Inv-loop left right i₀ t6 t7 i = (i ≤ 12)
 
 abbrev μ-loop : tie.MeasureT-loop
-μ-loop left right valve₀ valve = 12 - valve
+μ-loop left right i₀ t6 t7 i = 12 - i
 
 slice-aggregate-text : tie.Need-slice-aggregate-text Inv-loop μ-loop
 slice-aggregate-text c = search needs
@@ -26,17 +26,35 @@ text-requires-2 c κs = search needs
 loop-holds : tie.Need-loop-holds Inv-loop μ-loop
 loop-holds c = search needs
 
-line-requires : tie.Need-line-requires Inv-loop μ-loop
-line-requires c κs = search needs
+valve-requires : tie.Need-valve-requires Inv-loop μ-loop
+valve-requires c κs = search needs
 
-add-valve : tie.Need-add-valve Inv-loop μ-loop
-add-valve c = search needs
+add-i : tie.Need-add-i Inv-loop μ-loop
+add-i c = search needs
 
 loop-less : tie.Need-loop-less Inv-loop μ-loop
 loop-less c = search needs
 
 loop-again : tie.Need-loop-again Inv-loop μ-loop
 loop-again c = search needs
+
+slice-aggregate-text-3 : tie.Need-slice-aggregate-text-3 Inv-loop μ-loop
+slice-aggregate-text-3 c = search needs
+
+text-requires-3 : tie.Need-text-requires-3 Inv-loop μ-loop
+text-requires-3 c κs = search needs
+
+controller-requires : tie.Need-controller-requires Inv-loop μ-loop
+controller-requires c κs = search needs
+
+controller-requires-2 : tie.Need-controller-requires-2 Inv-loop μ-loop
+controller-requires-2 c κs = search needs
+
+slice-aggregate-text-4 : tie.Need-slice-aggregate-text-4 Inv-loop μ-loop
+slice-aggregate-text-4 c = search needs
+
+text-requires-4 : tie.Need-text-requires-4 Inv-loop μ-loop
+text-requires-4 c κs = search needs
 
 returns : tie.Need-returns Inv-loop μ-loop
 returns c = search needs
@@ -52,8 +70,14 @@ print-spec =
     slice-aggregate-text-2
     text-requires-2
     loop-holds
-    line-requires
-    add-valve
+    valve-requires
+    add-i
     loop-less
     loop-again
+    slice-aggregate-text-3
+    text-requires-3
+    controller-requires
+    controller-requires-2
+    slice-aggregate-text-4
+    text-requires-4
     returns)
