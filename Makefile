@@ -5,6 +5,10 @@
 test:
 	rt ci
 
+# the main job, as a tutorial: two controllers of valves, two servers, a day's reports
+demo:
+	rt check demo && target/bin/demo
+
 # the runs against the original Rust in both profiles; ORACLE is the folder in which it was built
 # (oracle/README.md); SEED and COUNT, if set, draw other cases
 differential:

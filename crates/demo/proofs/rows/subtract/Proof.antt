@@ -1,0 +1,98 @@
+-- `demo::rows::subtract` is safe and ends. The invariant: the rows keep their length.
+-- Assumes nothing.
+use borrow.Author.Needs.{needs}
+use Prim.Native.Nat.{_≤_, _-_}
+use mathlib.Core.Path.{_≡_}
+use native.Mathlib.Omega.{arith}
+use lib.ListN.{length, length-set}
+use Rattle.demo.proofs.rows.subtract.Statement.{statement}
+use Rattle.demo.proofs.rows.subtract.Tie as tie
+
+abbrev Inv-loop : tie.InvT-loop
+Inv-loop all left right₀ i₀ right i = (length right ≡ length right₀) × (i ≤ length all)
+
+abbrev μ-loop : tie.MeasureT-loop
+μ-loop all left right₀ i₀ right i = length all - i
+
+loop-holds : tie.Need-loop-holds Inv-loop μ-loop
+loop-holds c = search needs
+
+mul-element : tie.Need-mul-element Inv-loop μ-loop
+mul-element c = search needs
+
+shared-slice-read-element : tie.Need-shared-slice-read-element Inv-loop μ-loop
+shared-slice-read-element c = search needs
+
+element-requires : tie.Need-element-requires Inv-loop μ-loop
+element-requires c κs = search needs
+
+mul-element-2 : tie.Need-mul-element-2 Inv-loop μ-loop
+mul-element-2 c = search needs
+
+shared-slice-read-element-2 : tie.Need-shared-slice-read-element-2 Inv-loop μ-loop
+shared-slice-read-element-2 c = search needs
+
+element-requires-2 : tie.Need-element-requires-2 Inv-loop μ-loop
+element-requires-2 c κs = search needs
+
+sub-requires : tie.Need-sub-requires Inv-loop μ-loop
+sub-requires c κs = search needs
+
+mul-right : tie.Need-mul-right Inv-loop μ-loop
+mul-right c = search needs
+
+slice-write-right : tie.Need-slice-write-right Inv-loop μ-loop
+slice-write-right c = search needs
+
+add-i : tie.Need-add-i Inv-loop μ-loop
+add-i c = search needs
+
+loop-less : tie.Need-loop-less Inv-loop μ-loop
+loop-less c = search needs
+
+loop-again : tie.Need-loop-again Inv-loop μ-loop
+loop-again c = simp length-set (omega arith)
+
+same-length : tie.Need-same-length Inv-loop μ-loop
+same-length c = search needs
+
+returns : tie.Need-returns Inv-loop μ-loop
+returns c = search needs
+
+same-length-2 : tie.Need-same-length-2 Inv-loop μ-loop
+same-length-2 c = search needs
+
+returns-2 : tie.Need-returns-2 Inv-loop μ-loop
+returns-2 c = search needs
+
+same-length-3 : tie.Need-same-length-3 Inv-loop μ-loop
+same-length-3 c = search needs
+
+returns-3 : tie.Need-returns-3 Inv-loop μ-loop
+returns-3 c = search needs
+
+pub subtract-spec : {M : Type 1} → statement M
+subtract-spec =
+    tie.close
+    (tie.spec
+    Inv-loop
+    μ-loop
+    loop-holds
+    mul-element
+    shared-slice-read-element
+    element-requires
+    mul-element-2
+    shared-slice-read-element-2
+    element-requires-2
+    sub-requires
+    mul-right
+    slice-write-right
+    add-i
+    loop-less
+    loop-again
+    same-length
+    returns
+    same-length-2
+    returns-2
+    same-length-3
+    returns-3)

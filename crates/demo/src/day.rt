@@ -1,0 +1,288 @@
+// A day: a report of each key, made, tested and filed.
+use crate::filing;
+use crate::made_up;
+use crate::report;
+use crate::rows;
+use rules::Answer;
+ghost use Prim.Native.Nat.{_<_};
+
+// One more where yes.
+pub fn more(n: u64, yes: bool) -> u64 {
+    if yes {
+        std::num::wrapping_add_u64(n, 1)
+    } else {
+        n
+    }
+}
+
+// Empties both servers' aggregates, before the first report.
+pub fn begin(left: &mut [u64], right: &mut [u64]) {
+    let mut key = 0;
+    while key < filing::KEYS {
+        filing::empty(left, key);
+        filing::empty(right, key);
+        key += 1;
+    }
+}
+
+// Files a report that was made, and is valid, with both servers.
+fn file_both(
+    key: usize,
+    left_share: &[u64],
+    right_share: &[u64],
+    left: &mut [u64],
+    right: &mut [u64],
+) -> Answer
+    requires { ⌜ key < 24 ⌝ }
+{
+    let in_left = filing::file(left, key, left_share);
+    let in_right = filing::file(right, key, right_share);
+    in_left.or(in_right)
+}
+
+// The report of a key in the lent rows. Whether it was filed.
+fn report_in(
+    key: usize,
+    left: &mut [u64],
+    right: &mut [u64],
+    measurement: &mut [u64],
+    results: &mut [u64],
+    left_share: &mut [u64],
+    left_results: &mut [u64],
+    right_share: &mut [u64],
+    right_results: &mut [u64],
+    full: &mut [u64],
+) -> bool
+    requires { ⌜ key < 24 ⌝ }
+{
+    let made = report::make(
+        key,
+        measurement,
+        results,
+        left_share,
+        left_results,
+        right_share,
+        right_results,
+        full,
+    );
+    if made.number != 0 {
+        return false;
+    }
+    if !report::is_valid(key, full) {
+        return false;
+    }
+    let filed = file_both(key, left_share, right_share, left, right);
+    filed.number == 0
+}
+
+// The report of a key in fresh rows.
+fn fresh_report(key: usize, left: &mut [u64], right: &mut [u64]) -> bool
+    requires { ⌜ key < 24 ⌝ }
+{
+    let mut measurement = [0u64; 96];
+    let mut results = [0u64; 4];
+    let mut left_share = [0u64; 96];
+    let mut left_results = [0u64; 4];
+    let mut right_share = [0u64; 96];
+    let mut right_results = [0u64; 4];
+    let mut full = [0u64; 100];
+    report_in(
+        key,
+        left,
+        right,
+        &mut measurement,
+        &mut results,
+        &mut left_share,
+        &mut left_results,
+        &mut right_share,
+        &mut right_results,
+        &mut full,
+    )
+}
+
+// Whether a report's rows hold, element by element, what the same report leaves in fresh rows.
+fn same_as_fresh(
+    key: usize,
+    measurement: &[u64],
+    results: &[u64],
+    left_share: &[u64],
+    left_results: &[u64],
+    right_share: &[u64],
+    right_results: &[u64],
+    full: &[u64],
+) -> bool {
+    let mut measurement_2 = [0u64; 96];
+    let mut results_2 = [0u64; 4];
+    let mut left_share_2 = [0u64; 96];
+    let mut left_results_2 = [0u64; 4];
+    let mut right_share_2 = [0u64; 96];
+    let mut right_results_2 = [0u64; 4];
+    let mut full_2 = [0u64; 100];
+    report::make(
+        key,
+        &mut measurement_2,
+        &mut results_2,
+        &mut left_share_2,
+        &mut left_results_2,
+        &mut right_share_2,
+        &mut right_results_2,
+        &mut full_2,
+    );
+    rows::same(measurement, &measurement_2)
+        & rows::same(results, &results_2)
+        & rows::same(left_share, &left_share_2)
+        & rows::same(left_results, &left_results_2)
+        & rows::same(right_share, &right_share_2)
+        & rows::same(right_results, &right_results_2)
+        & rows::same(full, &full_2)
+}
+
+// The first day: fresh rows for each report. How many were filed.
+pub fn first(left: &mut [u64], right: &mut [u64]) -> u64 {
+    begin(left, right);
+    let mut filed = 0;
+    let mut key = 0;
+    while key < filing::KEYS {
+        filed = more(filed, fresh_report(key, left, right));
+        key += 1;
+    }
+    filed
+}
+
+// How many of a day's reports were filed, and how many equal those made in fresh rows.
+pub struct Counts {
+    pub filed: u64,
+    pub equal: u64,
+}
+
+// A report of the second day, counted.
+fn second_report(
+    key: usize,
+    so_far: Counts,
+    left: &mut [u64],
+    right: &mut [u64],
+    measurement: &mut [u64],
+    results: &mut [u64],
+    left_share: &mut [u64],
+    left_results: &mut [u64],
+    right_share: &mut [u64],
+    right_results: &mut [u64],
+    full: &mut [u64],
+) -> Counts
+    requires { ⌜ key < 24 ⌝ }
+{
+    let filed = report_in(
+        key,
+        left,
+        right,
+        measurement,
+        results,
+        left_share,
+        left_results,
+        right_share,
+        right_results,
+        full,
+    );
+    let equal = same_as_fresh(
+        key,
+        measurement,
+        results,
+        left_share,
+        left_results,
+        right_share,
+        right_results,
+        full,
+    );
+    Counts {
+        filed: more(so_far.filed, filed),
+        equal: more(so_far.equal, equal),
+    }
+}
+
+// The second day in one set of rows. Before each report they hold what the last one left.
+fn second_in(
+    left: &mut [u64],
+    right: &mut [u64],
+    measurement: &mut [u64],
+    results: &mut [u64],
+    left_share: &mut [u64],
+    left_results: &mut [u64],
+    right_share: &mut [u64],
+    right_results: &mut [u64],
+    full: &mut [u64],
+) -> Counts {
+    let mut counts = Counts { filed: 0, equal: 0 };
+    let mut key = 0;
+    while key < filing::KEYS {
+        counts = second_report(
+            key,
+            counts,
+            left,
+            right,
+            measurement,
+            results,
+            left_share,
+            left_results,
+            right_share,
+            right_results,
+            full,
+        );
+        key += 1;
+    }
+    counts
+}
+
+// The second day: one set of rows, which are not fresh.
+pub fn second(left: &mut [u64], right: &mut [u64]) -> Counts {
+    let mut measurement = [0u64; 96];
+    let mut results = [0u64; 4];
+    let mut left_share = [0u64; 96];
+    let mut left_results = [0u64; 4];
+    let mut right_share = [0u64; 96];
+    let mut right_results = [0u64; 4];
+    let mut full = [0u64; 100];
+    rows::fill(&mut measurement);
+    rows::fill(&mut results);
+    rows::fill(&mut left_share);
+    rows::fill(&mut left_results);
+    rows::fill(&mut right_share);
+    rows::fill(&mut right_results);
+    rows::fill(&mut full);
+    begin(left, right);
+    second_in(
+        left,
+        right,
+        &mut measurement,
+        &mut results,
+        &mut left_share,
+        &mut left_results,
+        &mut right_share,
+        &mut right_results,
+        &mut full,
+    )
+}
+
+// A damaged report: in the left share of a key an element is p, which is no field number. The tests
+// and the aggregate refuse it, and the aggregate stays as it was.
+pub fn damaged(left: &mut [u64], key: usize) -> Answer
+    requires { ⌜ key < 24 ⌝ }
+{
+    let mut share = [0u64; 96];
+    made_up::elements(made_up::seed(key, made_up::CUT), &mut share);
+    share[2] = field64::P;
+    let mut results = [0u64; 4];
+    let tested = report::test(key, &share, &mut results);
+    let filed = filing::file(left, key, &share);
+    tested.or(filed)
+}
+
+// How many keys' decoded rows equal the true sums.
+pub fn true_keys(left: &[u64], right: &[u64]) -> u64 {
+    let mut n = 0;
+    let mut key = 0;
+    while key < filing::KEYS {
+        n = more(n, filing::is_true(left, right, key));
+        key += 1;
+    }
+    n
+}

@@ -1,0 +1,109 @@
+// The aggregates of a server, one for each key. A key is a controller and a valve:
+// controller * 12 + valve, both counted from 0. A server's aggregates stand in one row.
+use crate::made_up;
+use crate::report::DIMENSION;
+use crate::report::param;
+use crate::report::short;
+use crate::rows;
+use rules::Answer;
+ghost use Prim.Native.Nat.{_<_, _≤_};
+
+pub const VALVES: usize = 12;
+
+pub const KEYS: usize = 24;
+
+// The aggregate of no shares.
+pub fn empty(aggregates: &mut [u64], key: usize) -> Answer
+    requires { ⌜ key < 24 ⌝ }
+{
+    let start = key * DIMENSION;
+    let end = start + DIMENSION;
+    if aggregates.len() < end {
+        return short();
+    }
+    vdaf::empty_aggregate(param(), &mut aggregates[start..end])
+}
+
+// 5. A server adds the gradient part of a share to the aggregate of its key.
+pub fn file(aggregates: &mut [u64], key: usize, share: &[u64]) -> Answer
+    requires { ⌜ key < 24 ⌝ }
+{
+    let start = key * DIMENSION;
+    let end = start + DIMENSION;
+    if aggregates.len() < end {
+        return short();
+    }
+    if share.len() < DIMENSION {
+        return short();
+    }
+    vdaf::accumulate(param(), &mut aggregates[start..end], &share[0..DIMENSION])
+}
+
+// 6. The two servers' aggregates of a key together give the sum of its gradients.
+pub fn read(left: &[u64], right: &[u64], key: usize, decoded: &mut [f64]) -> Answer
+    requires { ⌜ key < 24 ⌝ }
+{
+    let start = key * DIMENSION;
+    let end = start + DIMENSION;
+    if left.len() < end {
+        return short();
+    }
+    if right.len() < end {
+        return short();
+    }
+    vdaf::unshard(param(), &left[start..end], &right[start..end], decoded)
+}
+
+// Whether what was decoded for a key is the true sum: that of its one gradient.
+pub fn is_true(left: &[u64], right: &[u64], key: usize) -> bool
+    requires { ⌜ key < 24 ⌝ }
+{
+    let mut decoded = [0.0f64; 4];
+    let mut gradient = [0.0f64; 4];
+    made_up::gradient(key, &mut gradient);
+    let answer = read(left, right, key, &mut decoded);
+    answer.number == 0 && rows::same_doubles(&decoded, &gradient)
+}
+
+// Adds the aggregate of a key to that of its controller.
+fn merge_key(total: &mut [u64], aggregates: &[u64], key: usize) -> Answer
+    requires { ⌜ key < 24 ⌝ }
+{
+    let start = key * DIMENSION;
+    let end = start + DIMENSION;
+    if aggregates.len() < end {
+        return short();
+    }
+    vdaf::merge(param(), total, &aggregates[start..end])
+}
+
+// 7. A server merges aggregates: here those of a controller's valves, from the first key on.
+pub fn merge_valves(total: &mut [u64], aggregates: &[u64], first: usize) -> Answer
+    requires { ⌜ first ≤ 12 ⌝ }
+{
+    let mut answer = vdaf::empty_aggregate(param(), total);
+    let mut valve = 0;
+    while valve < VALVES {
+        answer = answer.or(merge_key(total, aggregates, first + valve));
+        valve += 1;
+    }
+    answer
+}
+
+// Adds the gradient of a key to a true sum.
+fn add_gradient(sum: &mut [f64], key: usize) {
+    let mut gradient = [0.0f64; 4];
+    made_up::gradient(key, &mut gradient);
+    rows::add_doubles(sum, &gradient);
+}
+
+// The true sum over a controller's valves.
+pub fn add_gradients(sum: &mut [f64], first: usize)
+    requires { ⌜ first ≤ 12 ⌝ }
+{
+    let mut valve = 0;
+    while valve < VALVES {
+        add_gradient(sum, first + valve);
+        valve += 1;
+    }
+}

@@ -1,0 +1,66 @@
+// A day on the farm, as a tutorial of the library: two controllers with twelve valves each, a report
+// of each valve, two servers. report.rt and filing.rt have the steps of a report, numbered 1 to 7.
+mod day;
+mod filing;
+mod made_up;
+mod print;
+mod report;
+mod rows;
+mod table;
+
+// Whether the lengths of the rows here are those that the parameters derive.
+fn lengths_are_derived() -> bool {
+    let derived = pine::derive(report::param());
+    let pine = derived.pine;
+    derived.answer.number == 0
+        && pine.dimension == report::DIMENSION as u64
+        && pine.encoded_input_len == report::ENCODED_LEN as u64
+        && pine.num_wr_tests == report::TESTS as u64
+        && pine.input_len == report::INPUT_LEN as u64
+        && derived.stream_len == report::STREAM_LEN as u64
+        && derived.flp.joint_rand_len == 3
+}
+
+fn first_day(left: &mut [u64], right: &mut [u64]) {
+    print::text(b"day 1: fresh rows for each report\n");
+    let filed = day::first(left, right);
+    print::counted(
+        filed,
+        b" of 24 reports encoded, cut, tested by both servers, valid and filed\n",
+    );
+    print::text(b"a damaged report of controller 1, valve 3: refused by ");
+    print::answer(day::damaged(left, 2));
+    print::text(b"\n");
+}
+
+fn second_day(left: &mut [u64], right: &mut [u64]) {
+    print::text(b"day 2: the same reports, in rows left from the last caller\n");
+    let counts = day::second(left, right);
+    print::counted(counts.filed, b" of 24 reports filed\n");
+    print::counted(
+        counts.equal,
+        b" of 24 reports equal, element by element, those made in fresh rows\n",
+    );
+}
+
+fn sums(left: &[u64], right: &[u64]) {
+    print::counted(
+        day::true_keys(left, right),
+        b" of 24 keys: the decoded row equals the true sums in all 4 coordinates\n",
+    );
+}
+
+fn main() {
+    if !lengths_are_derived() {
+        print::text(b"the parameters derive other lengths than these rows have\n");
+        return;
+    }
+    print::text(b"d 4, f 6, n 400, T 4, K 4: a measurement has 96 elements, a full share 100\n");
+    let mut left = [0u64; 96];
+    let mut right = [0u64; 96];
+    first_day(&mut left, &mut right);
+    table::print(&left, &right);
+    sums(&left, &right);
+    second_day(&mut left, &mut right);
+    sums(&left, &right);
+}

@@ -1,0 +1,64 @@
+// Text on standard output.
+use crate::made_up;
+use libc::STDOUT_FILENO;
+use rules::Answer;
+
+pub fn text(s: &[u8]) {
+    io::write_all(STDOUT_FILENO, s);
+}
+
+// A text and the number before it.
+pub fn counted(n: u64, s: &[u8]) {
+    io::print_decimal(STDOUT_FILENO, n);
+    text(s);
+}
+
+pub fn answer(answer: Answer) {
+    text(b"rule ");
+    counted(answer.number, b", place ");
+    counted(answer.place, b"");
+}
+
+// Two places, with a space for a 0 in front.
+pub fn two_places(n: u64) {
+    if n < 10 {
+        text(b" ");
+    }
+    counted(n, b"");
+}
+
+fn digit(n: u64) {
+    counted(n % 10, b"");
+}
+
+// A number of 64ths, with all its decimals.
+fn sixty_fourths(n: u64) {
+    counted(n / 64, b".");
+    let millionths = (n % 64) * 15625;
+    digit(millionths / 100000);
+    digit(millionths / 10000);
+    digit(millionths / 1000);
+    digit(millionths / 100);
+    digit(millionths / 10);
+    digit(millionths);
+}
+
+// In columns: a space before a number below 10.
+fn signed(sign: &[u8], n: u64) {
+    if n < 640 {
+        text(b" ");
+    }
+    text(sign);
+    sixty_fourths(n);
+}
+
+// A multiple of 1/64, which as an element with 6 fractional bits is a number of 64ths. The upper
+// half of the elements are the negative numbers.
+pub fn double(x: f64) {
+    let n = doubles::f64_to_field(x, 6).element;
+    if n <= field64::P / 2 {
+        signed(b" ", n);
+    } else {
+        signed(b"-", field64::neg(made_up::element(n)));
+    }
+}
