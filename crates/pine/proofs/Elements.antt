@@ -130,6 +130,17 @@ no-carry x s h w k = go (ltb x p64) refl
         let o : bitAnd x (18446744073709551615 - s) / 2 ^ 63 ≡ bitAnd 1 1 = and-shr x _ 63 ∙ rw (a, b) in
         absurd (omega (arith, o ∙ and-self 1))
 
+-- and one below p does not
+pub no-carry-below : (x s : ℕ) → s ≡ (x + 4294967295) % 2 ^ 64 → x < p64 → bitAnd x (18446744073709551615 - s) < 2 ^ 63
+no-carry-below x s w h = go (ltb x (2 ^ 63)) refl
+  where
+    go : (t : Bool) → ltb x (2 ^ 63) ≡ t → bitAnd x (18446744073709551615 - s) < 2 ^ 63
+    go true e = omega (arith, ltb-true x _ e, and-le-l x (18446744073709551615 - s))
+    go false e =
+        let l : 2 ^ 63 ≤ x = ltb-false x _ e in
+        let b : 18446744073709551615 - s < 2 ^ 63 = omega arith in
+        omega (arith, and-le-r x (18446744073709551615 - s))
+
 pub or-left : (a b : ℕ) → a ≤ bitOr a b
 or-left a b = omega (arith, or-add-and a b, and-le-r a b)
 

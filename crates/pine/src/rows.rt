@@ -21,11 +21,12 @@ pub fn check_len(place: u64, len: usize, expected: u64) -> Answer
     }
 }
 
-// 2^63 or more where an element is not below p: adding 2^32 - 1 to such an element wraps, and of the
+// 2^63 or more just where an element is not below p: adding 2^32 - 1 to such an element wraps, and of the
 // two numbers only the element has its highest bit. The loop has no branch on the data, so that it
 // runs on vectors.
 fn carries(row: &[u64]) -> u64
     ensures { λ r. ⌜ (r < 2 ^ 63 → Below p64 (now (row .entry))) ⌝ }
+    ensures { λ r. ⌜ (Below p64 (now (row .entry)) → r < 2 ^ 63) ⌝ }
 {
     let mut seen: u64 = 0;
     let mut i = 0;

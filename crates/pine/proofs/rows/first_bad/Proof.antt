@@ -12,7 +12,7 @@ carries-requires c κs = search needs
 returns : tie.Need-returns
 returns c =
     let row = c .before .before .before .args .row .now in
-    sym (none-bad p64 row (c .before .carries .ensures (c .if1 .taken)))
+    sym (none-bad p64 row (c .before .carries .ensures .0 (c .if1 .taken)))
 
 search-requires : tie.Need-search-requires
 search-requires c κs = search needs
