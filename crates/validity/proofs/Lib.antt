@@ -1,5 +1,6 @@
--- What the proofs of the functions cite: `Chunks`, `Turns` and `TestTurns` of the loops over chunks, `Verdicts` of the rules, `Cut` of the parts of the vector.
+-- What the proofs of the functions cite: `Chunks`, `Powers`, `Turns` and `TestTurns` of the loops, `Verdicts` of the rules, `Cut` of the parts of the vector.
 mod Chunks
+mod Powers
 mod Turns
 mod TestTurns
 mod Verdicts
