@@ -1,4 +1,4 @@
--- `flp::encode_usable` meets its contract. Assumes nothing.
+-- `encode::encode_usable` meets its contract. Assumes nothing.
 use mathlib.Core.Path.{_∙_}
 use native.Mathlib.Omega.{arith}
 use borrow.Author.Needs.{needs}

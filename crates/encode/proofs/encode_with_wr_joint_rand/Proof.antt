@@ -1,4 +1,4 @@
--- `flp::encode_with_wr_joint_rand` meets its contract. Assumes nothing.
+-- `encode::encode_with_wr_joint_rand` meets its contract. Assumes nothing.
 use mathlib.Core.Path.{sym}
 use borrow.Author.Needs.{needs}
 use lib.ListN.{length}

@@ -1,4 +1,4 @@
--- `flp::run_wr_tests` meets its contract. Assumes nothing.
+-- `wr_tests::run_wr_tests` meets its contract. Assumes nothing.
 use borrow.Author.Needs.{needs}
 use Rattle.pine.specs.Param.{Field64}
 use Rattle.wr_tests.proofs.Alone.{refused, met, room, done}

@@ -1,4 +1,4 @@
--- `flp::parts::gradient_part` meets its contract. Assumes nothing.
+-- `validity::parts::gradient_part` meets its contract. Assumes nothing.
 use mathlib.Core.Path.{refl, sym, ap, _∙_}
 use native.Mathlib.Omega.{arith}
 use Rattle.rules.specs.declared.Answer.{Answer}

@@ -1,4 +1,4 @@
--- `flp::parts::results_part` meets its contract. Assumes nothing.
+-- `validity::parts::results_part` meets its contract. Assumes nothing.
 use mathlib.Core.Path.{sym, ap, _∙_}
 use Prim.Native.Nat.{_≤_}
 use native.Mathlib.Omega.{arith}

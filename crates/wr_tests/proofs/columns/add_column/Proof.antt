@@ -1,4 +1,4 @@
--- `flp::wr_tests::add_column` meets its contract. Assumes nothing.
+-- `wr_tests::columns::add_column` meets its contract. Assumes nothing.
 use mathlib.Core.Path.{_∙_}
 use native.Mathlib.Omega.{arith}
 use borrow.Author.Needs.{needs}

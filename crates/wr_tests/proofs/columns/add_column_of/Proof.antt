@@ -1,4 +1,4 @@
--- `flp::wr_tests::add_column_of` meets its contract. Assumes nothing.
+-- `wr_tests::columns::add_column_of` meets its contract. Assumes nothing.
 use mathlib.Core.Path.{_∙_}
 use borrow.Author.Needs.{needs}
 use Rattle.field64.specs.Field.{p64}

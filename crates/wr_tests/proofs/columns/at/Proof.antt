@@ -1,4 +1,4 @@
--- `flp::wr_tests::at` meets its contract. Assumes nothing.
+-- `wr_tests::columns::at` meets its contract. Assumes nothing.
 use mathlib.Core.Path.{refl, sym}
 use lib.ListN.{List·getD-eq-default}
 use borrow.Author.Needs.{needs}

@@ -1,4 +1,4 @@
--- `flp::wr_tests::less` meets its contract. Assumes nothing.
+-- `wr_tests::columns::less` meets its contract. Assumes nothing.
 use native.Mathlib.Omega.{arith}
 use borrow.Author.Needs.{needs}
 use Rattle.wr_tests.proofs.columns.less.Statement.{statement}

@@ -1,4 +1,4 @@
--- `flp::wr_tests::less_column` meets its contract: a row whose elements are replaced from the front. Assumes nothing.
+-- `wr_tests::columns::less_column` meets its contract: a row whose elements are replaced from the front. Assumes nothing.
 use mathlib.Core.Path.{_≡_, refl, sym, ap, _∙_}
 use mathlib.Core.List.{List}
 use Prim.Native.Nat.{ℕ, _+_, _-_, _*_, _≤_, _<_}

@@ -1,4 +1,4 @@
--- `flp::wr_tests::run_block` meets its contract: after j turns each result is over the first 4j coordinates. Assumes nothing.
+-- `wr_tests::columns::run_block` meets its contract: after j turns each result is over the first 4j coordinates. Assumes nothing.
 use mathlib.Core.Path.{_≡_, refl, ap, _∙_}
 use Prim.Native.Nat.{ℕ, _-_, _*_, _≤_}
 use native.Mathlib.Omega.{arith}

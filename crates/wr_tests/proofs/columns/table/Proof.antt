@@ -1,4 +1,4 @@
--- `flp::wr_tests::table` meets its contract. Assumes nothing.
+-- `wr_tests::columns::table` meets its contract. Assumes nothing.
 use borrow.Author.Needs.{needs}
 use Rattle.field64.specs.Field.{p64}
 use Rattle.wr_tests.proofs.Tables.{table-law}
