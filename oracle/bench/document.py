@@ -30,7 +30,7 @@ HEADLINES = ("encode", "tests", "valid", "valid_sq_norm_equal", "accumulate", "u
 HEADLINE_LENGTHS = (1000, 65536)
 USUAL_TESTS = 100
 
-# slower than another way: by so much in the median, and in the lower quartile, which other programs disturb less
+# slower than another way: more than so many times its median
 MARGIN = 1.05
 
 
@@ -147,16 +147,11 @@ def size(count):
     return f"{count >> 10} KiB" if count < 1 << 20 else f"{count >> 20} MiB"
 
 
-def is_slower(times, other):
-    return times.median > MARGIN * other.median and times.lower > MARGIN * other.lower
-
-
 def slower(rows, way, of_way):
     """The rows that take more time than another way, in a table, or that there are none."""
     compared = [r for r in rows if of_way(r)]
-    behind = [r for r in compared if is_slower(r.ours, of_way(r))]
-    said = f"{len(behind)} of {len(compared)} rows take more than {MARGIN} times as long as {way}, in the median and in\n"
-    said += "the lower quartile."
+    behind = [r for r in compared if r.ours.median > MARGIN * of_way(r).median]
+    said = f"{len(behind)} of {len(compared)} rows take more than {MARGIN} times as long as {way}, by the medians."
     columns = (NAME, LENGTH, OF, OURS, (way, False, lambda r: spread(of_way(r))))
     times = (f"ours / {way}", True, lambda r: ratio(r.ours, of_way(r)))
     return said + ("\n\n" + table((*columns, times), behind) if behind else "")
