@@ -14,7 +14,8 @@ demo:
 differential:
 	oracle/differential
 
-# times beside the original's, with ORACLE as above, in docs/BENCHMARKS.md; OUT: where to build
+# times beside the original's and those of Rust by hand, with ORACLE as above: docs/BENCHMARKS.md and its plot;
+# OUT: where to build
 bench:
 	oracle/bench/run --write docs/BENCHMARKS.md
 

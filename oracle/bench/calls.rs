@@ -1,18 +1,21 @@
-//! The calls of libpine_c.a, include/pine.h, beside the original's.
+//! The calls of libpine_c.a, include/pine.h, beside the original's and those written by hand.
 
-use crate::{fields, row, timed, words, Random, Row, Run, FRAC_BITS, SIZES};
-use pine_oracle::{
-    pine::{
-        opened::{elements, new, pine_vec, run_wr_tests},
-        Pine64,
-    },
-    xofs::{choose_stream, ChosenXof},
+use crate::{
+    by_hand_calls::{self as by_hand, Outcome},
+    fields, row,
+    stream::{give, Given},
+    way, words, Random, Row, Title, Way, Ways, FRAC_BITS, SCALE,
+};
+use pine_oracle::pine::{
+    opened::{derived, elements, new, pine_vec, run_wr_tests, to_f64, to_field},
+    vdaf::PineVec,
+    Pine64,
 };
 use prio_draft09::{
     codec::Decode,
     field::Field64,
     flp::{FlpError, Gadget, Type},
-    vdaf::{xof::Seed, Aggregatable, Collector},
+    vdaf::{xof::Seed, Aggregatable, Aggregator, Collector},
 };
 use std::{any::Any, cell::Cell, rc::Rc};
 
@@ -35,8 +38,37 @@ struct Circuit {
     gadget_calls: u64,
 }
 
+#[repr(C)]
+struct Coordinate {
+    answer: Answer,
+    element: u64,
+}
+
+#[repr(C)]
+struct Decoded {
+    answer: Answer,
+    value: f64,
+}
+
+#[repr(C)]
+struct Part {
+    answer: Answer,
+    start: u64,
+    len: u64,
+}
+
+/// The record, the stream's length and the lengths of both circuits. The third is the bits of a double.
+#[repr(C)]
+struct Derived {
+    answer: Answer,
+    numbers: [u64; 29],
+}
+
 #[link(name = "pine_c", kind = "static")]
 extern "C" {
+    fn pine_derive(param: Param) -> Derived;
+    fn pine_f64_to_field(x: f64, frac_bits: u64) -> Coordinate;
+    fn pine_field_to_f64(y: u64, frac_bits: u64) -> Decoded;
     fn pine_encode_with_wr_joint_rand(
         param: Param,
         gradient: *const f64,
@@ -66,7 +98,12 @@ extern "C" {
         joint_rand_len: usize,
     ) -> Circuit;
     fn pine_valid_sq_norm_equal(param: Param, num_shares: u64, full: *const u64, full_len: usize) -> Circuit;
+    fn pine_gradient_part(param: Param, full: *const u64, full_len: usize) -> Part;
+    fn pine_checked_part(param: Param, full: *const u64, full_len: usize) -> Part;
+    fn pine_results_part(param: Param, full: *const u64, full_len: usize) -> Part;
+    fn pine_empty_aggregate(param: Param, row: *mut u64, row_len: usize) -> Answer;
     fn pine_accumulate(param: Param, agg: *mut u64, agg_len: usize, share: *const u64, share_len: usize) -> Answer;
+    fn pine_merge(param: Param, agg: *mut u64, agg_len: usize, other: *const u64, other_len: usize) -> Answer;
     fn pine_unshard(
         param: Param,
         left: *const u64,
@@ -80,147 +117,218 @@ extern "C" {
 
 const ACCEPTED: Answer = Answer { number: 0, place: 0 };
 
-const NORM_BOUND: u64 = 1 << 20;
-
-/// Tests whose cost is compared with that of one.
+const DIMENSIONS: [usize; 5] = [16, 256, 1000, 4096, 65536];
 const TESTS: [usize; 4] = [1, 10, 100, 256];
 
-/// The chunk lengths of the two circuits, for a dimension: one, and near the square root.
-fn chunks(d: usize) -> [(usize, usize); 2] {
-    [(1, 1), (50, d.isqrt())]
+/// Where a row names no T, and where it is of a share.
+const USUAL_TESTS: usize = 100;
+const USUAL_DIMENSIONS: [usize; 2] = [1000, 65536];
+
+const NORM_BOUND: u64 = 1 << 20;
+/// The bits of its square, and of a test's result.
+const SQ_NORM_BITS: usize = 41;
+const WR_TEST_BITS: usize = 25;
+
+fn checked_len(t: usize) -> usize {
+    2 * SQ_NORM_BITS + (1 + WR_TEST_BITS) * t
+}
+
+/// The chunk lengths of the two circuits: one, and near the square root of the elements taken.
+fn chunks(d: usize, t: usize) -> [(usize, usize); 2] {
+    let root = checked_len(t).isqrt();
+    [(1, 1), (root - root % 10, d.isqrt())]
 }
 
 fn param(d: usize, (c, e): (usize, usize), t: usize) -> Param {
     Param([NORM_BOUND, d as u64, FRAC_BITS, c as u64, e as u64, t as u64, t as u64])
 }
 
-/// The original hands the chosen bytes out whatever the seed.
-fn seed() -> Seed<16> {
-    Seed::get_decoded(&[7; 16]).unwrap()
+fn title(name: &str, d: usize, of: &'static str, bytes: usize) -> Title {
+    Title::new("call", name, d, of, bytes)
 }
 
-fn original_encodes(pine: &Pine64, gradient: &[f64]) -> (Vec<Field64>, Vec<Field64>) {
-    pine.flp.encode_with_wr_joint_rand::<ChosenXof, 16>(gradient.iter().copied(), &seed()).unwrap()
+/// As the calls of the archive answer.
+fn answer<T>(outcome: &Outcome<T>) -> Answer {
+    match outcome {
+        Ok(_) => ACCEPTED,
+        Err(refusal) => Answer { number: refusal.number, place: refusal.place },
+    }
+}
+
+fn accepted(answer: Answer) {
+    assert_eq!(answer, ACCEPTED);
+}
+
+/// Whatever the seed, the original is given the stream.
+fn seed() -> Seed<16> {
+    Seed::get_decoded(&[7; 16]).unwrap()
 }
 
 // Encoding and the tests
 
 struct Report {
     param: Param,
-    pine: Pine64,
     gradient: Vec<f64>,
     stream: Vec<u8>,
+}
+
+fn report(random: &mut Random, param: Param) -> Report {
+    let [_, d, _, _, _, t, _] = param.0.map(|x| x as usize);
+    Report { param, gradient: random.gradient(d), stream: random.bytes(d.div_ceil(4) * t) }
+}
+
+/// A report and the rows for its encoding.
+struct Encoding {
+    report: Report,
     measurement: Vec<u64>,
     results: Vec<u64>,
 }
 
-/// A gradient, a stream, and what the original makes of them.
-fn report(random: &mut Random, param: Param) -> Report {
-    let [_, d, _, _, _, t, _] = param.0.map(|x| x as usize);
-    let pine = new(param.0);
-    let (gradient, stream) = (random.gradient(d), random.bytes(d.div_ceil(4) * t));
-    choose_stream(stream.clone());
-    let (measurement, results) = original_encodes(&pine, &gradient);
-    Report { param, pine, gradient, stream, measurement: words(&measurement), results: words(&results) }
+fn encoding(s: &Report) -> Encoding {
+    let [_, d, _, _, _, t, _] = s.param.0.map(|x| x as usize);
+    let report = Report { param: s.param, gradient: s.gradient.clone(), stream: s.stream.clone() };
+    Encoding { report, measurement: vec![1; d + checked_len(t)], results: vec![1; t] }
 }
 
-fn encode(name: String, d: usize, t: usize) -> Row {
-    row(name, d, (d, "coordinate"), move |r| report(r, param(d, (1, 1), t)), vec![
-        |s: &Report| {
-            choose_stream(s.stream.clone());
-            let gradient = s.gradient.clone();
-            let (ns, (measurement, results)) = timed(|| original_encodes(&s.pine, &gradient));
-            (ns, words(&[measurement, results].concat()))
-        },
-        |s: &Report| {
-            let (gradient, stream) = (s.gradient.clone(), s.stream.clone());
-            let (mut measurement, mut results) = (vec![1; s.measurement.len()], vec![1; s.results.len()]);
-            let (ns, answer) = timed(|| unsafe {
-                pine_encode_with_wr_joint_rand(
-                    s.param,
-                    gradient.as_ptr(),
-                    gradient.len(),
-                    stream.as_ptr(),
-                    stream.len(),
-                    measurement.as_mut_ptr(),
-                    measurement.len(),
-                    results.as_mut_ptr(),
-                    results.len(),
-                )
-            });
-            assert_eq!(answer, ACCEPTED);
-            (ns, [measurement, results].concat())
-        },
-    ])
+fn encode_by_hand(w: &mut Encoding) -> Answer {
+    let Report { param, gradient, stream } = &w.report;
+    answer(&by_hand::encode(param.0, gradient, stream, &mut w.measurement, &mut w.results))
 }
 
+fn encode_ours(w: &mut Encoding) -> Answer {
+    let Report { param, gradient, stream } = &w.report;
+    unsafe {
+        pine_encode_with_wr_joint_rand(
+            *param,
+            gradient.as_ptr(),
+            gradient.len(),
+            stream.as_ptr(),
+            stream.len(),
+            w.measurement.as_mut_ptr(),
+            w.measurement.len(),
+            w.results.as_mut_ptr(),
+            w.results.len(),
+        )
+    }
+}
+
+fn encoded(w: Encoding, answer: Answer) -> Vec<u64> {
+    accepted(answer);
+    [w.measurement, w.results].concat()
+}
+
+fn encode(d: usize, t: usize) -> Row {
+    let bytes = 8 * d + d.div_ceil(4) * t + 8 * (d + checked_len(t)) + 8 * t;
+    let title = Title { tests: Some(t), ..title("encode", d, "coordinate", bytes) };
+    let ready = |s: &Report| {
+        give(&s.stream);
+        (new(s.param.0), s.gradient.clone())
+    };
+    let original = way(
+        ready,
+        |(pine, gradient)| pine.flp.encode_with_wr_joint_rand::<Given, 16>(gradient.iter().copied(), &seed()).unwrap(),
+        |_, (measurement, results)| words(&[measurement, results].concat()),
+    );
+    row(
+        title,
+        move |r| report(r, param(d, (1, 1), t)),
+        Ways {
+            original: Some(original),
+            ours: way(encoding, encode_ours, encoded),
+            by_hand: Some(way(encoding, encode_by_hand, encoded)),
+        },
+    )
+}
+
+#[derive(Clone)]
 struct Tests {
     param: Param,
-    pine: Pine64,
     gradient: Vec<u64>,
     stream: Vec<u8>,
+    results: Vec<u64>,
 }
 
-fn tests(name: String, d: usize, t: usize, gradient: fn(&mut Random, Param) -> Vec<u64>) -> Row {
-    let fresh = move |r: &mut Random| {
-        let param = param(d, (1, 1), t);
-        Tests { param, pine: new(param.0), gradient: gradient(r, param), stream: r.bytes(d.div_ceil(4) * t) }
+/// The tests of an encoded gradient, or of a share of one.
+fn fresh_tests(random: &mut Random, param: Param, share: bool) -> Tests {
+    let report = report(random, param);
+    let d = report.gradient.len();
+    let gradient = if share { random.elements(d) } else { full_vector(&report)[..d].to_vec() };
+    Tests { param, gradient, stream: report.stream, results: vec![1; param.0[5] as usize] }
+}
+
+fn tests_ours(w: &mut Tests) -> Answer {
+    unsafe {
+        pine_run_wr_tests(
+            w.param,
+            w.gradient.as_ptr(),
+            w.gradient.len(),
+            w.stream.as_ptr(),
+            w.stream.len(),
+            w.results.as_mut_ptr(),
+            w.results.len(),
+        )
+    }
+}
+
+fn tests_by_hand(w: &mut Tests) -> Answer {
+    answer(&by_hand::run_wr_tests(w.param.0, &w.gradient, &w.stream, &mut w.results))
+}
+
+fn test_results(w: Tests, answer: Answer) -> Vec<u64> {
+    accepted(answer);
+    w.results
+}
+
+fn tests(d: usize, t: usize, share: bool) -> Row {
+    let note = if share { "a share" } else { "" }.into();
+    let bytes = 8 * d + d.div_ceil(4) * t + 8 * t;
+    let title = Title { tests: Some(t), note, count: d * t, ..title("tests", d, "coordinate*test", bytes) };
+    let ready = |s: &Tests| {
+        give(&s.stream);
+        (new(s.param.0), fields(&s.gradient))
     };
-    row(name, d, (d * t, "coordinate*test"), fresh, vec![
-        |s: &Tests| {
-            choose_stream(s.stream.clone());
-            let gradient = fields(&s.gradient);
-            let (ns, results) = timed(|| run_wr_tests(&s.pine, &gradient, &seed()));
-            (ns, words(&results))
+    let original =
+        way(ready, |(pine, gradient)| run_wr_tests::<Given>(pine, gradient, &seed()), |_, results| words(&results));
+    row(
+        title,
+        move |r| fresh_tests(r, param(d, (1, 1), t), share),
+        Ways {
+            original: Some(original),
+            ours: way(Tests::clone, tests_ours, test_results),
+            by_hand: Some(way(Tests::clone, tests_by_hand, test_results)),
         },
-        |s: &Tests| {
-            let (gradient, stream) = (s.gradient.clone(), s.stream.clone());
-            let mut results = vec![1; s.param.0[5] as usize];
-            let (ns, answer) = timed(|| unsafe {
-                pine_run_wr_tests(
-                    s.param,
-                    gradient.as_ptr(),
-                    gradient.len(),
-                    stream.as_ptr(),
-                    stream.len(),
-                    results.as_mut_ptr(),
-                    results.len(),
-                )
-            });
-            assert_eq!(answer, ACCEPTED);
-            (ns, results)
-        },
-    ])
-}
-
-fn encoded(random: &mut Random, param: Param) -> Vec<u64> {
-    let mut measurement = report(random, param).measurement;
-    measurement.truncate(param.0[1] as usize);
-    measurement
-}
-
-fn share(random: &mut Random, param: Param) -> Vec<u64> {
-    random.elements(param.0[1] as usize)
+    )
 }
 
 // The circuits
 
+/// A report's measurement and results.
+fn full_vector(report: &Report) -> Vec<u64> {
+    let mut rows = encoding(report);
+    let answer = encode_by_hand(&mut rows);
+    encoded(rows, answer)
+}
+
+#[derive(Clone)]
 struct Full {
     param: Param,
-    pine: Pine64,
-    num_shares: usize,
+    num_shares: u64,
     full: Vec<u64>,
     joint_rand: Vec<u64>,
 }
 
 /// A report's full vector with num_shares 1, or a share of one with num_shares 2.
-fn full(random: &mut Random, param: Param, num_shares: usize) -> Full {
+fn fresh_full(random: &mut Random, param: Param, num_shares: u64) -> Full {
     let report = report(random, param);
-    let mut full = [report.measurement, report.results].concat();
+    let mut full = full_vector(&report);
     if num_shares > 1 {
         full = random.elements(full.len());
     }
-    Full { param, pine: report.pine, num_shares, full, joint_rand: random.elements(3) }
+    Full { param, num_shares, full, joint_rand: random.elements(3) }
+}
+
+fn full_len(d: usize, t: usize) -> usize {
+    d + checked_len(t) + t
 }
 
 #[derive(Debug)]
@@ -251,136 +359,288 @@ impl Gadget<Field64> for Counted {
     }
 }
 
-/// The value, and the gadget calls as another run counts them, which is not timed.
-fn original_circuit(t: &impl Type<Field = Field64>, s: &Full, joint_rand: &[u64]) -> Run {
-    let (full, joint_rand) = (fields(&s.full), fields(joint_rand));
-    let mut gadget = t.gadget();
-    let (ns, value) = timed(|| t.valid(&mut gadget, &full, &joint_rand, s.num_shares).unwrap());
-    let calls = Rc::new(Cell::new(0));
-    let counted = |inner| Box::new(Counted { inner, calls: calls.clone() }) as Box<dyn Gadget<Field64>>;
-    let mut gadget = t.gadget().into_iter().map(counted).collect();
-    assert_eq!(t.valid(&mut gadget, &full, &joint_rand, s.num_shares).unwrap(), value);
-    assert!(s.num_shares > 1 || u64::from(value) == 0);
-    (ns, vec![u64::from(value), calls.get()])
+/// What the original's circuits read.
+struct Original {
+    pine: Pine64,
+    gadgets: Vec<Box<dyn Gadget<Field64>>>,
+    full: Vec<Field64>,
+    joint_rand: Vec<Field64>,
+    num_shares: usize,
 }
 
-fn our_circuit(circuit: impl FnOnce() -> Circuit) -> Run {
-    let (ns, c) = timed(circuit);
-    assert_eq!(c.answer, ACCEPTED);
-    (ns, vec![c.value, c.gadget_calls])
+impl Original {
+    fn valid<T: Type<Field = Field64>>(&mut self, circuit: fn(&Pine64) -> &T) -> Field64 {
+        let Original { pine, gadgets, full, joint_rand, num_shares } = self;
+        circuit(pine).valid(gadgets, full, joint_rand, *num_shares).unwrap()
+    }
+
+    /// The value, and the gadget calls as another run counts them, which is not timed.
+    fn counted<T: Type<Field = Field64>>(mut self, circuit: fn(&Pine64) -> &T, value: Field64) -> Vec<u64> {
+        let calls = Rc::new(Cell::new(0));
+        let counted = |inner| Box::new(Counted { inner, calls: calls.clone() }) as Box<dyn Gadget<Field64>>;
+        self.gadgets = circuit(&self.pine).gadget().into_iter().map(counted).collect();
+        assert_eq!(self.valid(circuit), value);
+        assert!(self.num_shares > 1 || u64::from(value) == 0);
+        vec![u64::from(value), calls.get()]
+    }
 }
 
-fn valid(what: &str, d: usize, (c, e): (usize, usize), t: usize, num_shares: usize) -> Row {
-    let param = param(d, (c, e), t);
-    // all but the gradient and the results
-    let pine = new(param.0);
-    let checked = pine.flp.input_len() - d - t;
-    row(format!("valid, chunks of {c}{what}"), d, (checked, "checked element"), move |r| full(r, param, num_shares), vec![
-        |s: &Full| original_circuit(&s.pine.flp, s, &s.joint_rand),
-        |s: &Full| {
-            let (full, joint) = (s.full.clone(), s.joint_rand.clone());
-            our_circuit(|| unsafe {
-                pine_valid(s.param, s.num_shares as u64, full.as_ptr(), full.len(), joint.as_ptr(), joint.len())
-            })
+fn original_circuit<T: Type<Field = Field64> + 'static>(circuit: fn(&Pine64) -> &T) -> Way<Full> {
+    let ready = move |s: &Full| {
+        let pine = new(s.param.0);
+        let gadgets = circuit(&pine).gadget();
+        let joint_rand = fields(&s.joint_rand[..circuit(&pine).joint_rand_len()]);
+        Original { pine, gadgets, full: fields(&s.full), joint_rand, num_shares: s.num_shares as usize }
+    };
+    way(ready, move |w| w.valid(circuit), move |w, value| w.counted(circuit, value))
+}
+
+fn circuit_ways<T: Type<Field = Field64> + 'static>(
+    circuit: fn(&Pine64) -> &T,
+    ours: fn(&mut Full) -> Circuit,
+    by_hand: fn(&mut Full) -> Outcome<by_hand::Circuit>,
+) -> Ways<Full> {
+    let our_numbers = |_, c: Circuit| {
+        accepted(c.answer);
+        vec![c.value, c.gadget_calls]
+    };
+    let numbers = |_, outcome: Outcome<by_hand::Circuit>| outcome.map(|(value, calls)| vec![value, calls]).unwrap();
+    Ways {
+        original: Some(original_circuit(circuit)),
+        ours: way(Full::clone, ours, our_numbers),
+        by_hand: Some(way(Full::clone, by_hand, numbers)),
+    }
+}
+
+fn note(chunk_len: usize, num_shares: u64) -> String {
+    format!("chunks of {chunk_len}{}", if num_shares > 1 { ", a share" } else { "" })
+}
+
+fn valid(d: usize, t: usize, (c, e): (usize, usize), num_shares: u64) -> Row {
+    let title = Title {
+        tests: Some(t),
+        note: note(c, num_shares),
+        count: checked_len(t),
+        ..title("valid", d, "checked element", 8 * full_len(d, t))
+    };
+    let ways = circuit_ways(
+        |pine| &pine.flp,
+        |w| unsafe {
+            let (full, joint_rand) = (&w.full, &w.joint_rand);
+            pine_valid(w.param, w.num_shares, full.as_ptr(), full.len(), joint_rand.as_ptr(), joint_rand.len())
         },
-    ])
+        |w| by_hand::valid(w.param.0, w.num_shares, &w.full, &w.joint_rand),
+    );
+    row(title, move |r| fresh_full(r, param(d, (c, e), t), num_shares), ways)
 }
 
-fn valid_sq_norm_equal(what: &str, d: usize, (c, e): (usize, usize), t: usize, num_shares: usize) -> Row {
-    let param = param(d, (c, e), t);
-    let name = format!("valid_sq_norm_equal, chunks of {e}{what}");
-    row(name, d, (d, "coordinate"), move |r| full(r, param, num_shares), vec![
-        |s: &Full| original_circuit(&s.pine.flp_sq_norm_equal, s, &[]),
-        |s: &Full| {
-            let full = s.full.clone();
-            our_circuit(|| unsafe { pine_valid_sq_norm_equal(s.param, s.num_shares as u64, full.as_ptr(), full.len()) })
+fn valid_sq_norm_equal(d: usize, (c, e): (usize, usize), num_shares: u64) -> Row {
+    let bytes = 8 * full_len(d, USUAL_TESTS);
+    let title = Title { note: note(e, num_shares), ..title("valid_sq_norm_equal", d, "coordinate", bytes) };
+    let ways = circuit_ways(
+        |pine| &pine.flp_sq_norm_equal,
+        |w| unsafe { pine_valid_sq_norm_equal(w.param, w.num_shares, w.full.as_ptr(), w.full.len()) },
+        |w| by_hand::valid_sq_norm_equal(w.param.0, w.num_shares, &w.full),
+    );
+    row(title, move |r| fresh_full(r, param(d, (c, e), USUAL_TESTS), num_shares), ways)
+}
+
+type PartCall = unsafe extern "C" fn(Param, *const u64, usize) -> Part;
+
+/// The first, second or third part. The original's circuits split their vector without a test.
+fn part(name: &str, d: usize, call: PartCall, which: usize) -> Row {
+    let elements = full_len(d, USUAL_TESTS);
+    let title = Title { count: elements, ..title(name, d, "element of the full vector", 8 * elements) };
+    let ours = way(
+        Full::clone,
+        move |w: &mut Full| unsafe { call(w.param, w.full.as_ptr(), w.full.len()) },
+        |_, part| {
+            accepted(part.answer);
+            vec![part.start, part.len]
         },
-    ])
+    );
+    let by_hand = way(
+        Full::clone,
+        move |w: &mut Full| by_hand::part(w.param.0, &w.full, which),
+        |_, part| part.unwrap().map(|x| x as u64).to_vec(),
+    );
+    let fresh = move |r: &mut Random| fresh_full(r, param(d, (1, 1), USUAL_TESTS), 2);
+    row(title, fresh, Ways { original: None, ours, by_hand: Some(by_hand) })
 }
 
 // Aggregates
 
+#[derive(Clone)]
 struct Two {
     param: Param,
-    pine: Pine64,
     left: Vec<u64>,
     right: Vec<u64>,
 }
 
 fn two(random: &mut Random, d: usize) -> Two {
-    let param = param(d, (1, 1), 100);
-    Two { param, pine: new(param.0), left: random.elements(d), right: random.elements(d) }
+    Two { param: param(d, (1, 1), USUAL_TESTS), left: random.elements(d), right: random.elements(d) }
 }
 
-fn accumulate(d: usize) -> Row {
-    row("accumulate", d, (d, "element"), move |r| two(r, d), vec![
-        |s: &Two| {
-            let (mut agg, share) = (pine_vec(fields(&s.left)), pine_vec(fields(&s.right)));
-            let ns = timed(|| agg.accumulate(&share).unwrap()).0;
-            (ns, words(&elements(agg)))
-        },
-        |s: &Two| {
-            let (mut agg, share) = (s.left.clone(), s.right.clone());
-            let (ns, answer) =
-                timed(|| unsafe { pine_accumulate(s.param, agg.as_mut_ptr(), agg.len(), share.as_ptr(), share.len()) });
-            assert_eq!(answer, ACCEPTED);
-            (ns, agg)
-        },
-    ])
+fn original_two(s: &Two) -> [PineVec<Field64>; 2] {
+    [&s.left, &s.right].map(|row| pine_vec(fields(row)))
 }
 
-fn doubles(row: &[f64]) -> Vec<u64> {
+fn left(w: Two, answer: Answer) -> Vec<u64> {
+    accepted(answer);
+    w.left
+}
+
+fn empty_aggregate(d: usize) -> Row {
+    let original = way(
+        |s: &Two| new(s.param.0),
+        |pine| Aggregator::<16, 16>::aggregate(pine, &(), []).unwrap(),
+        |_, row| words(&elements(row)),
+    );
+    let ours = way(
+        Two::clone,
+        |w: &mut Two| unsafe { pine_empty_aggregate(w.param, w.left.as_mut_ptr(), w.left.len()) },
+        left,
+    );
+    let by_hand = way(Two::clone, |w: &mut Two| answer(&by_hand::empty_aggregate(w.param.0, &mut w.left)), left);
+    let title = title("empty_aggregate", d, "element", 8 * d);
+    row(title, move |r| two(r, d), Ways { original: Some(original), ours, by_hand: Some(by_hand) })
+}
+
+type Adding = unsafe extern "C" fn(Param, *mut u64, usize, *const u64, usize) -> Answer;
+
+fn adding(name: &str, d: usize, original: fn(&mut PineVec<Field64>, &PineVec<Field64>), call: Adding) -> Row {
+    let original = way(
+        original_two,
+        move |[agg, share]: &mut [PineVec<Field64>; 2]| original(agg, share),
+        |[agg, _], ()| words(&elements(agg)),
+    );
+    let ours = way(
+        Two::clone,
+        move |w: &mut Two| unsafe { call(w.param, w.left.as_mut_ptr(), w.left.len(), w.right.as_ptr(), w.right.len()) },
+        left,
+    );
+    let by_hand = way(Two::clone, |w: &mut Two| answer(&by_hand::accumulate(w.param.0, &mut w.left, &w.right)), left);
+    let title = title(name, d, "element", 16 * d);
+    row(title, move |r| two(r, d), Ways { original: Some(original), ours, by_hand: Some(by_hand) })
+}
+
+fn bits(row: Vec<f64>, answer: Answer) -> Vec<u64> {
+    accepted(answer);
     row.iter().map(|x| x.to_bits()).collect()
 }
 
 fn unshard(d: usize) -> Row {
-    row("unshard", d, (d, "element"), move |r| two(r, d), vec![
-        |s: &Two| {
-            let shares = vec![pine_vec(fields(&s.left)), pine_vec(fields(&s.right))];
-            let (ns, decoded) = timed(|| s.pine.unshard(&(), shares, 1).unwrap());
-            (ns, doubles(&decoded))
+    let original = way(
+        |s: &Two| (new(s.param.0), original_two(s).into()),
+        |(pine, rows): &mut (Pine64, Vec<PineVec<Field64>>)| pine.unshard(&(), std::mem::take(rows), 1).unwrap(),
+        |_, decoded| bits(decoded, ACCEPTED),
+    );
+    let ready = |s: &Two| (s.clone(), vec![1.0; s.left.len()]);
+    let ours = way(
+        ready,
+        |(w, decoded)| unsafe {
+            let (left, right) = (&w.left, &w.right);
+            pine_unshard(
+                w.param,
+                left.as_ptr(),
+                left.len(),
+                right.as_ptr(),
+                right.len(),
+                decoded.as_mut_ptr(),
+                decoded.len(),
+            )
         },
-        |s: &Two| {
-            let (left, right, mut decoded) = (s.left.clone(), s.right.clone(), vec![1.0; s.left.len()]);
-            let (ns, answer) = timed(|| unsafe {
-                pine_unshard(
-                    s.param,
-                    left.as_ptr(),
-                    left.len(),
-                    right.as_ptr(),
-                    right.len(),
-                    decoded.as_mut_ptr(),
-                    decoded.len(),
-                )
-            });
-            assert_eq!(answer, ACCEPTED);
-            (ns, doubles(&decoded))
-        },
-    ])
+        |(_, decoded), answer| bits(decoded, answer),
+    );
+    let by_hand = way(
+        ready,
+        |(w, decoded)| answer(&by_hand::unshard(w.param.0, &w.left, &w.right, decoded)),
+        |(_, decoded), answer| bits(decoded, answer),
+    );
+    let title = title("unshard", d, "element", 24 * d);
+    row(title, move |r| two(r, d), Ways { original: Some(original), ours, by_hand: Some(by_hand) })
+}
+
+// One number, and the record
+
+fn single(name: &str, bytes: usize) -> Title {
+    Title { count: 1, ..title(name, 1, "call", bytes) }
+}
+
+fn f64_to_field() -> Row {
+    let ours = |c: Coordinate| {
+        accepted(c.answer);
+        vec![c.element]
+    };
+    let ways = Ways {
+        original: Some(way(f64::clone, |x| to_field(*x, SCALE), |_, y| vec![u64::from(y.unwrap())])),
+        ours: way(f64::clone, |x| unsafe { pine_f64_to_field(*x, FRAC_BITS) }, move |_, c| ours(c)),
+        by_hand: Some(way(f64::clone, |x| by_hand::f64_to_field(*x, FRAC_BITS), |_, y| vec![y.unwrap()])),
+    };
+    row(single("f64_to_field", 16), |r| r.unit() * 2.0 - 1.0, ways)
+}
+
+fn field_to_f64() -> Row {
+    let ours = |c: Decoded| {
+        accepted(c.answer);
+        vec![c.value.to_bits()]
+    };
+    let original = |y: &u64| Field64::from(*y);
+    let ways = Ways {
+        original: Some(way(original, |y| to_f64(*y, SCALE), |_, x| vec![x.unwrap().to_bits()])),
+        ours: way(u64::clone, |y| unsafe { pine_field_to_f64(*y, FRAC_BITS) }, move |_, c| ours(c)),
+        by_hand: Some(way(u64::clone, |y| by_hand::field_to_f64(*y, FRAC_BITS), |_, x| vec![x.unwrap().to_bits()])),
+    };
+    row(single("field_to_f64", 16), Random::element, ways)
+}
+
+fn any_param(random: &mut Random) -> Param {
+    let mut up_to = |limit: u64| 1 + random.next() % limit;
+    let (n, d, f, c, e, t) = (up_to(3_037_000_499), up_to(65536), up_to(30), up_to(65536), up_to(65536), up_to(256));
+    Param([n, d, f, c, e, t, up_to(t)])
+}
+
+fn derive() -> Row {
+    let ways = Ways {
+        original: Some(way(|s: &Param| s.0, |inputs| derived(*inputs), |_, numbers| numbers.to_vec())),
+        ours: way(
+            Param::clone,
+            |param| unsafe { pine_derive(*param) },
+            |_, derived| {
+                accepted(derived.answer);
+                derived.numbers.to_vec()
+            },
+        ),
+        by_hand: None,
+    };
+    row(single("derive", size_of::<Param>() + size_of::<Derived>()), any_param, ways)
+}
+
+fn of_dimension(d: usize) -> Vec<Row> {
+    let mut rows = Vec::new();
+    for t in TESTS {
+        rows.push(encode(d, t));
+        rows.push(tests(d, t, false));
+        rows.extend(chunks(d, t).map(|at| valid(d, t, at, 1)));
+    }
+    rows.extend(chunks(d, USUAL_TESTS).map(|at| valid_sq_norm_equal(d, at, 1)));
+    if USUAL_DIMENSIONS.contains(&d) {
+        let at = chunks(d, USUAL_TESTS)[1];
+        rows.push(tests(d, USUAL_TESTS, true));
+        rows.push(valid(d, USUAL_TESTS, at, 2));
+        rows.push(valid_sq_norm_equal(d, at, 2));
+    }
+    rows.push(part("gradient_part", d, pine_gradient_part, 0));
+    rows.push(part("checked_part", d, pine_checked_part, 1));
+    rows.push(part("results_part", d, pine_results_part, 2));
+    rows.push(empty_aggregate(d));
+    rows.push(adding("accumulate", d, |agg, share| agg.accumulate(share).unwrap(), pine_accumulate));
+    rows.push(adding("merge", d, |agg, other| agg.merge(other).unwrap(), pine_merge));
+    rows.push(unshard(d));
+    rows
 }
 
 pub fn table() -> Vec<Row> {
-    let mut rows = Vec::new();
-    for d in SIZES {
-        rows.push(encode("encode, T = 100".into(), d, 100));
-        rows.push(tests("tests, T = 100".into(), d, 100, encoded));
-        rows.push(tests("tests, T = 100, a share".into(), d, 100, share));
-        for at in chunks(d) {
-            rows.push(valid("", d, at, 100, 1));
-        }
-        rows.push(valid(", a share", d, chunks(d)[1], 100, 2));
-        for at in chunks(d) {
-            rows.push(valid_sq_norm_equal("", d, at, 100, 1));
-        }
-        rows.push(valid_sq_norm_equal(", a share", d, chunks(d)[1], 100, 2));
-        rows.push(accumulate(d));
-        rows.push(unshard(d));
-    }
-    for t in TESTS {
-        rows.push(encode(format!("encode, growing: T = {t}"), 1000, t));
-    }
-    for t in TESTS {
-        rows.push(tests(format!("tests, growing: T = {t}"), 1000, t, encoded));
-    }
-    rows
+    let single = [f64_to_field(), field_to_f64(), derive()];
+    DIMENSIONS.into_iter().flat_map(of_dimension).chain(single).collect()
 }

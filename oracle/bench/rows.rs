@@ -1,10 +1,15 @@
-//! A table of rows: each says how to make fresh inputs, and the ways to work on them. A repetition makes inputs,
-//! takes the ways in turn, each on a copy of its own that was just written, and compares what they give.
-//! `calls` has the rows of the calls, `leaves` those of the leaf functions.
+//! Measures rows: each says how to make fresh inputs, and the ways to work on them. A repetition makes inputs, takes
+//! the ways in turn, each on copies of its own that were just written, compares what they give, and reads as many
+//! bytes as their rows have.
+//! `calls` has the rows of the calls, `leaves` those of the leaf functions, `memory` reading and copying.
+//! A line of the output is a row, its columns parted by tabs; document.py reads them.
 
 mod by_hand;
+mod by_hand_calls;
 mod calls;
 mod leaves;
+mod memory;
+mod stream;
 
 use prio_draft09::field::Field64;
 use std::{
@@ -12,10 +17,10 @@ use std::{
     time::{Duration, Instant, SystemTime},
 };
 
-const SIZES: [usize; 2] = [1000, 65536];
 const FRAC_BITS: u64 = 20;
+const SCALE: f64 = (1u64 << FRAC_BITS) as f64;
 
-struct Random(u64);
+pub struct Random(u64);
 
 impl Random {
     fn next(&mut self) -> u64 {
@@ -64,10 +69,6 @@ fn words(row: &[Field64]) -> Vec<u64> {
     row.iter().map(|x| u64::from(*x)).collect()
 }
 
-/// What a way took, in nanoseconds, and gave.
-type Run = (f64, Vec<u64>);
-type Way<S> = fn(&S) -> Run;
-
 #[repr(C)]
 struct Timespec {
     seconds: i64,
@@ -88,99 +89,138 @@ fn thread_time() -> i64 {
 
 /// The lesser of the time on the wall and the thread's processor time: the second leaves out what other programs
 /// took, and has some hundred nanoseconds for the asking, which the first has not.
-fn timed<R>(f: impl FnOnce() -> R) -> (f64, R) {
+fn timed(f: impl FnOnce()) -> f64 {
     let thread = thread_time();
     let wall = Instant::now();
-    let r = black_box(f());
+    f();
     let wall = wall.elapsed().as_nanos() as f64;
-    (wall.min((thread_time() - thread) as f64), r)
+    wall.min((thread_time() - thread) as f64)
 }
 
-struct Row {
+/// What a way took for all inputs of a repetition, in nanoseconds, and what it gave for each.
+type Run = (f64, Vec<Vec<u64>>);
+type Way<S> = Box<dyn Fn(&[S]) -> Run>;
+
+/// Only `work` is timed: `ready` copies what it works on, and `gave` reads what came of it.
+fn way<S, W, R>(
+    ready: impl Fn(&S) -> W + 'static,
+    work: impl Fn(&mut W) -> R + 'static,
+    gave: impl Fn(W, R) -> Vec<u64> + 'static,
+) -> Way<S> {
+    Box::new(move |inputs| {
+        let mut rows: Vec<W> = inputs.iter().map(&ready).collect();
+        let mut results = Vec::with_capacity(rows.len());
+        let ns = timed(|| rows.iter_mut().for_each(|w| results.push(black_box(work(w)))));
+        (ns, rows.into_iter().zip(results).map(|(w, r)| gave(w, r)).collect())
+    })
+}
+
+struct Ways<S> {
+    original: Option<Way<S>>,
+    ours: Way<S>,
+    by_hand: Option<Way<S>>,
+}
+
+/// What a row is of: the columns that name it, and how its time is shown.
+struct Title {
+    kind: &'static str,
     name: String,
     length: usize,
+    tests: Option<usize>,
+    /// What else the row differs in.
+    note: String,
     /// What the time is divided by: how many of what.
     count: usize,
     of: &'static str,
-    ways: usize,
-    /// One repetition, beginning with the way of that number: the times, by way.
-    repeat: Box<dyn Fn(&mut Random, usize) -> Vec<f64>>,
+    /// The bytes of all rows of one input.
+    bytes: usize,
 }
 
-/// The ways are the original, the project and, if there is a third, Rust by hand.
-fn row<S: 'static>(
-    name: impl Into<String>,
-    length: usize,
-    (count, of): (usize, &'static str),
-    fresh: impl Fn(&mut Random) -> S + 'static,
-    ways: Vec<Way<S>>,
-) -> Row {
-    let name = name.into();
-    Row {
-        name: name.clone(),
-        length,
-        count,
-        of,
-        ways: ways.len(),
-        repeat: Box::new(move |random, first| {
-            let inputs = fresh(random);
-            let mut times = vec![0.0; ways.len()];
-            let mut given: Option<Vec<u64>> = None;
-            for k in 0..ways.len() {
-                let at = (first + k) % ways.len();
-                let (ns, gave) = ways[at](&inputs);
-                times[at] = ns;
-                match &given {
-                    Some(g) => assert!(*g == gave, "{name}: way {at} gives something else"),
-                    None => given = Some(gave),
-                }
+impl Title {
+    /// The time of one call for each of its length.
+    fn new(kind: &'static str, name: &str, length: usize, of: &'static str, bytes: usize) -> Title {
+        Title { kind, name: name.into(), length, tests: None, note: String::new(), count: length, of, bytes }
+    }
+
+    fn text(&self) -> String {
+        let tests = self.tests.map(|t| format!(", T = {t}")).unwrap_or_default();
+        let note = if self.note.is_empty() { String::new() } else { format!(", {}", self.note) };
+        format!("{}{tests}{note}", self.name)
+    }
+}
+
+/// By way, and for reading: none, if a row has none.
+type Each<T> = [Option<T>; 4];
+
+struct Row {
+    title: Title,
+    /// One repetition, beginning with the way of that number: nanoseconds for one of `of`.
+    repeat: Box<dyn Fn(&mut Random, usize) -> Each<f64>>,
+}
+
+/// So many inputs that their rows have about so many bytes: a short call is timed over many of them.
+const BATCH_BYTES: usize = 1 << 15;
+
+fn row<S: 'static>(title: Title, fresh: impl Fn(&mut Random) -> S + 'static, ways: Ways<S>) -> Row {
+    let batch = (BATCH_BYTES / title.bytes).max(1);
+    let (text, count, bytes) = (title.text(), (batch * title.count) as f64, batch * title.bytes);
+    let ways = [ways.original, Some(ways.ours), ways.by_hand];
+    let repeat = move |random: &mut Random, first: usize| {
+        let inputs: Vec<S> = (0..batch).map(|_| fresh(random)).collect();
+        let mut times = [None, None, None, Some(memory::read(bytes) / count)];
+        let mut given: Option<Vec<Vec<u64>>> = None;
+        for at in (0..3).map(|k| (first + k) % 3) {
+            let Some(way) = &ways[at] else { continue };
+            let (ns, gave) = way(&inputs);
+            times[at] = Some(ns / count);
+            match &given {
+                Some(g) => assert!(*g == gave, "{text}: way {at} gives something else"),
+                None => given = Some(gave),
             }
-            times
-        }),
-    }
+        }
+        times
+    };
+    Row { title, repeat: Box::new(repeat) }
 }
 
-/// Three digits.
-fn short(x: f64) -> String {
-    let places = if x < 1.0 { 3 } else if x < 10.0 { 2 } else if x < 100.0 { 1 } else { 0 };
-    format!("{x:.places$}")
+const BUDGET: Duration = Duration::from_millis(1000);
+
+/// Whether a row that was repeated so often, in so much time, has had enough.
+fn enough(times: usize, spent: Duration) -> bool {
+    times >= 2001 || (times >= 15 && spent > BUDGET) || (times >= 7 && spent > 4 * BUDGET)
 }
 
-fn line(cells: [&str; 7]) {
-    let [name, length, of, original, ours, by_hand, ratio] = cells;
-    println!("| {name:<43} | {length:>6} | {of:<15} | {original:<22} | {ours:<22} | {by_hand:<7} | {ratio:>15} |");
+/// The lower quartile, the median and the upper quartile.
+fn quartiles(mut all: Vec<f64>) -> [f64; 3] {
+    all.sort_by(f64::total_cmp);
+    [1, 2, 3].map(|quarters| all[(all.len() - 1) * quarters / 4])
 }
 
-/// The times of a row for each of its elements, by way, in order: for three seconds, but not too few and not too many.
-fn measure(row: &Row, random: &mut Random) -> Vec<Vec<f64>> {
-    let mut times = vec![Vec::new(); row.ways];
+fn measure(row: &Row, random: &mut Random) -> Each<[f64; 3]> {
+    let mut times: [Vec<f64>; 4] = Default::default();
     let begin = Instant::now();
-    for i in 0..2001 {
-        if i >= 31 && begin.elapsed() > Duration::from_secs(3) {
-            break;
+    let mut done = 0;
+    while !enough(done, begin.elapsed()) {
+        for (all, ns) in times.iter_mut().zip((row.repeat)(random, done)) {
+            all.extend(ns);
         }
-        for (all, ns) in times.iter_mut().zip((row.repeat)(random, i)) {
-            all.push(ns / row.count as f64);
-        }
+        done += 1;
     }
-    for all in &mut times {
-        all.sort_by(f64::total_cmp);
-    }
-    times
+    times.map(|all| (!all.is_empty()).then(|| quartiles(all)))
+}
+
+fn print(title: &Title, times: Each<[f64; 3]>) {
+    let Title { kind, name, length, tests, note, of, .. } = title;
+    let tests = tests.map(|t| t.to_string()).unwrap_or_default();
+    let times = times.map(|t| t.map(|q| q.map(|x| format!("{x:.5}")).join(" ")).unwrap_or_default());
+    println!("{kind}\t{name}\t{length}\t{tests}\t{note}\t{of}\t{}", times.join("\t"));
 }
 
 fn main() {
     let only = std::env::args().nth(1).unwrap_or_default();
-    let rows = calls::table().into_iter().chain(leaves::table()).filter(|r| r.name.contains(&only));
     let mut random = Random(SystemTime::UNIX_EPOCH.elapsed().unwrap().as_nanos() as u64);
-    line(["row", "length", "ns for each", "original", "ours", "by hand", "original / ours"]);
-    line(["---", "---:", "---", "---", "---", "---", "---:"]);
-    for row in rows {
-        let times = measure(&row, &mut random);
-        let at = |way: usize, quarters: usize| times[way][(times[way].len() - 1) * quarters / 4];
-        let cell = |way| format!("{} ({} to {})", short(at(way, 2)), short(at(way, 1)), short(at(way, 3)));
-        let by_hand = if row.ways > 2 { short(at(2, 2)) } else { String::new() };
-        let ratio = format!("{:.2}", at(0, 2) / at(1, 2));
-        line([&row.name, &row.length.to_string(), row.of, &cell(0), &cell(1), &by_hand, &ratio]);
+    let rows = memory::table().into_iter().chain(calls::table()).chain(leaves::table());
+    for row in rows.filter(|r| r.title.kind == "memory" || r.title.text().contains(&only)) {
+        print(&row.title, measure(&row, &mut random));
     }
 }
