@@ -9,10 +9,10 @@ test:
 demo:
 	rt check demo && target/bin/demo
 
-# the runs against the original Rust in both profiles; ORACLE is the folder in which it was built
-# (oracle/README.md); SEED and COUNT, if set, draw other cases
+# every call of the archive beside the original Rust, in both of its profiles; ORACLE is the folder in which the
+# original was built (oracle/README.md); SEED and COUNT, if set, draw other cases
 differential:
-	oracle/differential
+	oracle/differential/run
 
 # times beside the original's and those of Rust by hand, with ORACLE as above: docs/BENCHMARKS.md and its plot;
 # OUT: where to build

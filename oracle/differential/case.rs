@@ -1,0 +1,173 @@
+//! A case: one call with all of its arguments.
+
+use crate::param::Param;
+use std::fmt::{Display, Formatter, Result};
+
+#[derive(Clone, Copy, PartialEq, Eq)]
+pub enum Call {
+    CheckParam,
+    Derive,
+    F64ToField,
+    FieldToF64,
+    Encode,
+    RunWrTests,
+    Valid,
+    ValidSqNormEqual,
+    GradientPart,
+    CheckedPart,
+    ResultsPart,
+    EmptyAggregate,
+    Accumulate,
+    Merge,
+    Unshard,
+}
+
+pub const CALLS: [Call; 15] = [
+    Call::CheckParam,
+    Call::Derive,
+    Call::F64ToField,
+    Call::FieldToF64,
+    Call::Encode,
+    Call::RunWrTests,
+    Call::Valid,
+    Call::ValidSqNormEqual,
+    Call::GradientPart,
+    Call::CheckedPart,
+    Call::ResultsPart,
+    Call::EmptyAggregate,
+    Call::Accumulate,
+    Call::Merge,
+    Call::Unshard,
+];
+
+impl Call {
+    /// As in include/pine.h, after pine_.
+    pub fn name(self) -> &'static str {
+        match self {
+            Call::CheckParam => "check_param",
+            Call::Derive => "derive",
+            Call::F64ToField => "f64_to_field",
+            Call::FieldToF64 => "field_to_f64",
+            Call::Encode => "encode_with_wr_joint_rand",
+            Call::RunWrTests => "run_wr_tests",
+            Call::Valid => "valid",
+            Call::ValidSqNormEqual => "valid_sq_norm_equal",
+            Call::GradientPart => "gradient_part",
+            Call::CheckedPart => "checked_part",
+            Call::ResultsPart => "results_part",
+            Call::EmptyAggregate => "empty_aggregate",
+            Call::Accumulate => "accumulate",
+            Call::Merge => "merge",
+            Call::Unshard => "unshard",
+        }
+    }
+
+    pub fn has_shares(self) -> bool {
+        matches!(self, Call::Valid | Call::ValidSqNormEqual)
+    }
+
+    /// The case's name in oracle/README.md. The original has no call for a part: these go by their own name.
+    fn word(self) -> &'static str {
+        match self {
+            Call::CheckParam | Call::Derive => "params",
+            Call::F64ToField => "coord",
+            Call::FieldToF64 => "decode",
+            Call::Encode => "encode",
+            Call::RunWrTests => "wrtests",
+            Call::ValidSqNormEqual => "valideq",
+            Call::EmptyAggregate => "aggregate",
+            _ => self.name(),
+        }
+    }
+}
+
+pub enum Row {
+    /// Bit patterns; read.
+    Doubles(Vec<u64>),
+    /// Read.
+    Elements(Vec<u64>),
+    /// Read.
+    Stream(Vec<u8>),
+    /// Read and written.
+    Aggregate(Vec<u64>),
+    /// Written; what it holds before the call.
+    Written(Vec<u64>),
+}
+
+impl Row {
+    pub fn len(&self) -> usize {
+        match self {
+            Row::Stream(bytes) => bytes.len(),
+            Row::Doubles(row) | Row::Elements(row) | Row::Aggregate(row) | Row::Written(row) => row.len(),
+        }
+    }
+
+    /// The elements that are read.
+    pub fn elements(&self) -> &[u64] {
+        match self {
+            Row::Elements(row) | Row::Aggregate(row) => row,
+            _ => &[],
+        }
+    }
+
+    pub fn is_written(&self) -> bool {
+        matches!(self, Row::Aggregate(_) | Row::Written(_))
+    }
+}
+
+pub struct Case {
+    pub call: Call,
+    /// Of a call on one number, f alone counts.
+    pub param: Param,
+    /// The double's bits, the element, or num_shares.
+    pub number: u64,
+    /// In document 01's order.
+    pub rows: Vec<Row>,
+}
+
+fn write_vec(to: &mut Formatter, row: &[u64], width: usize) -> Result {
+    write!(to, " {}", row.len())?;
+    row.iter().try_for_each(|x| write!(to, " {x:0width$x}"))
+}
+
+fn write_row(to: &mut Formatter, row: &Row) -> Result {
+    match row {
+        Row::Doubles(row) => write_vec(to, row, 16),
+        Row::Elements(row) | Row::Aggregate(row) => write_vec(to, row, 1),
+        Row::Stream(bytes) if bytes.is_empty() => write!(to, " -"),
+        Row::Stream(bytes) => {
+            write!(to, " ")?;
+            bytes.iter().try_for_each(|x| write!(to, "{x:02x}"))
+        }
+        Row::Written(_) => Ok(()),
+    }
+}
+
+/// The line of oracle/README.md.
+impl Display for Case {
+    fn fmt(&self, to: &mut Formatter) -> Result {
+        write!(to, "{}", self.call.word())?;
+        match self.call {
+            Call::F64ToField => return write!(to, " {} {:016x}", self.param.f, self.number),
+            Call::FieldToF64 => return write!(to, " {} {:x}", self.param.f, self.number),
+            _ => self.param.inputs().iter().try_for_each(|x| write!(to, " {x}"))?,
+        }
+        if self.call.has_shares() {
+            write!(to, " {}", self.number)?;
+        }
+        self.rows.iter().try_for_each(|row| write_row(to, row))?;
+        if matches!(self.call, Call::ValidSqNormEqual | Call::EmptyAggregate) {
+            write!(to, " 0")?;
+        }
+        let lent: Vec<String> = self
+            .rows
+            .iter()
+            .filter(|row| matches!(row, Row::Written(_)))
+            .map(|row| format!(" {}", row.len()))
+            .collect();
+        if lent.is_empty() {
+            return Ok(());
+        }
+        write!(to, " out{}", lent.concat())
+    }
+}

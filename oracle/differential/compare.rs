@@ -1,0 +1,79 @@
+//! One case put to both, and everything compared.
+
+use crate::{
+    case::Case,
+    lent::Lent,
+    original,
+    ours::{self, Given},
+    random::Random,
+    rules::{self, Answer, ACCEPTED},
+};
+
+/// What was found the same.
+pub struct Same {
+    pub answer: Answer,
+    /// Values and elements that are the original's.
+    pub compared: usize,
+    /// Elements that had to stay.
+    pub unchanged: usize,
+}
+
+type Outcome = Result<(), String>;
+
+fn equal(what: &str, ours: &[u64], wanted: &[u64]) -> Outcome {
+    if ours.len() != wanted.len() {
+        return Err(format!("{what}: ours has {} elements, wanted {}", ours.len(), wanted.len()));
+    }
+    match ours.iter().zip(wanted).position(|(x, y)| x != y) {
+        None => Ok(()),
+        Some(i) => Err(format!("{what}, element {i}: ours {:x}, wanted {:x}", ours[i], wanted[i])),
+    }
+}
+
+fn unchanged(rows: &[(usize, &Lent)]) -> Outcome {
+    match rows.iter().find(|(_, row)| !row.is_unchanged()) {
+        None => Ok(()),
+        Some((at, _)) => Err(format!("row {at} or the memory beside it is changed")),
+    }
+}
+
+fn len_of(rows: &[(usize, &Lent)]) -> usize {
+    rows.iter().map(|(_, row)| row.len).sum()
+}
+
+fn refused(answer: Answer, given: &Given, rows: &[(usize, &Lent)]) -> Result<Same, String> {
+    equal("the values beside a refusal", &given.values, &vec![0; given.values.len()])?;
+    unchanged(rows)?;
+    Ok(Same { answer, compared: 0, unchanged: len_of(rows) })
+}
+
+fn accepted(case: &Case, given: &Given, rows: &[(usize, &Lent)]) -> Result<Same, String> {
+    let original = original::call(case).map_err(|said| format!("the original does not accept: {said}"))?;
+    equal("the values", &given.values, &original.values)?;
+    let (written, read): (Vec<_>, Vec<_>) = rows.iter().partition(|(at, _)| case.rows[at - 1].is_written());
+    assert_eq!(written.len(), original.rows.len());
+    for ((at, row), wanted) in written.iter().zip(&original.rows) {
+        equal(&format!("row {at}"), row.now(), wanted)?;
+        if !row.has_its_guards() {
+            return Err(format!("the memory beside row {at} is changed"));
+        }
+    }
+    unchanged(&read)?;
+    Ok(Same { answer: ACCEPTED, compared: given.values.len() + len_of(&written), unchanged: len_of(&read) })
+}
+
+/// What was the same, or both answers and the first difference.
+pub fn compare(random: &mut Random, case: &Case) -> Result<Same, String> {
+    let answer = rules::answer(case);
+    let mut rows: Vec<Lent> = case.rows.iter().map(|row| Lent::new(random, row)).collect();
+    let given = ours::call(case, &mut rows);
+    let rows: Vec<(usize, &Lent)> = (1..).zip(&rows).collect();
+    let found = if given.answer != answer {
+        Err("the answers differ".into())
+    } else if answer == ACCEPTED {
+        accepted(case, &given, &rows)
+    } else {
+        refused(answer, &given, &rows)
+    };
+    found.map_err(|difference| format!("ours {}, by document 01 {answer}; {difference}", given.answer))
+}

@@ -1,0 +1,73 @@
+//! How many calls there were, by call and rule, as a table.
+
+use crate::{
+    case::{Call, CALLS},
+    compare::Same,
+};
+
+const RULES: usize = 14;
+
+#[derive(Clone, Copy, Default)]
+struct Count {
+    /// By the answer's number.
+    answers: [u64; RULES],
+    compared: u64,
+    unchanged: u64,
+}
+
+impl Count {
+    fn add(&mut self, other: &Count) {
+        self.answers.iter_mut().zip(&other.answers).for_each(|(x, y)| *x += y);
+        self.compared += other.compared;
+        self.unchanged += other.unchanged;
+    }
+
+    fn calls(&self) -> u64 {
+        self.answers.iter().sum()
+    }
+
+    /// The numbers of its row; a rule that refused none is left blank.
+    fn cells(&self) -> Vec<String> {
+        let refused = self.answers[1..].iter().map(|many| if *many == 0 { String::new() } else { grouped(*many) });
+        let mut cells = vec![grouped(self.calls()), grouped(self.answers[0])];
+        cells.extend(refused);
+        cells.extend([grouped(self.compared), grouped(self.unchanged)]);
+        cells
+    }
+}
+
+#[derive(Default)]
+pub struct Counts([Count; CALLS.len()]);
+
+impl Counts {
+    pub fn add(&mut self, call: Call, same: &Same) {
+        let mut one = Count { compared: same.compared as u64, unchanged: same.unchanged as u64, ..Count::default() };
+        one.answers[same.answer.number as usize] = 1;
+        self.0[call as usize].add(&one);
+    }
+
+    pub fn show(&self) {
+        let mut all = Count::default();
+        self.0.iter().for_each(|count| all.add(count));
+        let rules: Vec<String> = (1..RULES).map(|rule| format!(" {rule} |")).collect();
+        println!("| call | calls | accepted |{} elements compared | elements unchanged |", rules.concat());
+        println!("|---|{}", "---:|".repeat(RULES + 3));
+        for call in CALLS.into_iter().filter(|call| self.0[*call as usize].calls() > 0) {
+            println!("| `{}` | {} |", call.name(), self.0[call as usize].cells().join(" | "));
+        }
+        println!("| all | {} |", all.cells().join(" | "));
+    }
+}
+
+/// With a comma before every three digits.
+pub fn grouped(x: u64) -> String {
+    let digits = x.to_string();
+    let mut grouped = String::new();
+    for (i, digit) in digits.chars().enumerate() {
+        if i > 0 && (digits.len() - i) % 3 == 0 {
+            grouped.push(',');
+        }
+        grouped.push(digit);
+    }
+    grouped
+}

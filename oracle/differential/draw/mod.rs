@@ -1,0 +1,106 @@
+//! Draws a case: a sound one, and in two of five cases some damage to it.
+
+mod damage;
+mod elements;
+mod params;
+mod reports;
+mod singles;
+
+use crate::{
+    case::{Call, Case, Row},
+    param::{Param, Sizes},
+    random::Random,
+};
+
+fn with_rows(call: Call, param: Param, rows: Vec<Row>) -> Case {
+    Case { call, param, number: 0, rows }
+}
+
+fn written(random: &mut Random, len: usize) -> Row {
+    Row::Written(random.words(len))
+}
+
+fn encode(random: &mut Random) -> Case {
+    let mut param = params::for_rows(random);
+    let numbers = reports::numbers(random, &mut param);
+    let gradient = reports::gradient(random, &numbers, param.f);
+    let sizes = Sizes::of(&param);
+    let stream = reports::stream(random, &numbers, &sizes, param.t);
+    let rows = vec![
+        Row::Doubles(gradient),
+        Row::Stream(stream),
+        written(random, sizes.measurement),
+        written(random, param.t as usize),
+    ];
+    with_rows(Call::Encode, param, rows)
+}
+
+fn run_wr_tests(random: &mut Random) -> Case {
+    let param = params::for_rows(random);
+    let rows = vec![
+        Row::Elements(elements::row(random, param.d as usize)),
+        Row::Stream(reports::any_stream(random, Sizes::of(&param).stream)),
+        written(random, param.t as usize),
+    ];
+    with_rows(Call::RunWrTests, param, rows)
+}
+
+fn circuit(random: &mut Random, call: Call) -> Case {
+    let mut param = params::for_rows(random);
+    let mut rows = vec![Row::Elements(reports::full(random, &mut param))];
+    if call == Call::Valid {
+        rows.push(Row::Elements((0..3).map(|_| elements::joint_rand(random)).collect()));
+    }
+    let number =
+        if random.once_in(8) { random.between(1, 255) } else { random.pick(&[1, 1, 1, 2, 2, 3, 4, 128, 254, 255]) };
+    Case { number, ..with_rows(call, param, rows) }
+}
+
+fn part(random: &mut Random, call: Call) -> Case {
+    let param = params::for_rows(random);
+    let full = elements::row(random, Sizes::of(&param).full);
+    with_rows(call, param, vec![Row::Elements(full)])
+}
+
+fn empty_aggregate(random: &mut Random) -> Case {
+    let param = params::for_rows(random);
+    let row = written(random, param.d as usize);
+    with_rows(Call::EmptyAggregate, param, vec![row])
+}
+
+fn two_rows(random: &mut Random) -> (Param, Vec<u64>, Vec<u64>) {
+    let param = params::for_rows(random);
+    let left = elements::row(random, param.d as usize);
+    let right = if random.once_in(16) { left.clone() } else { elements::completed(random, &left) };
+    (param, left, right)
+}
+
+fn adding(random: &mut Random, call: Call) -> Case {
+    let (param, agg, share) = two_rows(random);
+    with_rows(call, param, vec![Row::Aggregate(agg), Row::Elements(share)])
+}
+
+fn unshard(random: &mut Random) -> Case {
+    let (param, left, right) = two_rows(random);
+    let decoded = written(random, left.len());
+    with_rows(Call::Unshard, param, vec![Row::Elements(left), Row::Elements(right), decoded])
+}
+
+pub fn case(random: &mut Random, call: Call) -> Case {
+    let mut case = match call {
+        Call::CheckParam | Call::Derive => with_rows(call, params::any(random), vec![]),
+        Call::F64ToField => return singles::f64_to_field(random),
+        Call::FieldToF64 => return singles::field_to_f64(random),
+        Call::Encode => encode(random),
+        Call::RunWrTests => run_wr_tests(random),
+        Call::Valid | Call::ValidSqNormEqual => circuit(random, call),
+        Call::GradientPart | Call::CheckedPart | Call::ResultsPart => part(random, call),
+        Call::EmptyAggregate => empty_aggregate(random),
+        Call::Accumulate | Call::Merge => adding(random, call),
+        Call::Unshard => unshard(random),
+    };
+    for _ in 0..random.pick(&[0, 0, 0, 0, 0, 0, 1, 1, 2, 3]) {
+        damage::once(random, &mut case);
+    }
+    case
+}

@@ -1,0 +1,154 @@
+//! The seven inputs.
+
+use crate::{
+    param::{within, Limits, Param, Sizes, CHUNK, D, F, N, P, T},
+    random::Random,
+};
+use std::sync::LazyLock;
+
+/// The last n before n x n gets one more binary digit or the test bound doubles, and the first n after.
+static STEPS: LazyLock<Vec<u64>> = LazyLock::new(|| {
+    let last = |k: u32| [((1u128 << k) - 1).isqrt(), 10 * ((1u128 << k) - 1) / 87];
+    let both = |n: u128| [n as u64, n as u64 + 1];
+    let mut steps: Vec<u64> = (0..64).flat_map(last).flat_map(both).filter(|n| within(*n, N)).collect();
+    steps.sort();
+    steps.dedup();
+    steps
+});
+
+/// Where a narrower or a signed number would go wrong.
+const WIDE: [u64; 15] = [
+    127,
+    255,
+    1 << 16,
+    (1 << 31) - 1,
+    1 << 31,
+    (1 << 32) - 1,
+    1 << 32,
+    1 << 53,
+    P / 2,
+    P / 2 + 1,
+    (1 << 63) - 1,
+    1 << 63,
+    P - 1,
+    P,
+    u64::MAX,
+];
+
+/// An edge, by a power of two, of any length, or any.
+pub fn allowed(random: &mut Random, (low, high): Limits) -> u64 {
+    let digits = 64 - u64::from(high.leading_zeros());
+    match random.below(4) {
+        0 => random.pick(&[low, low + 1, high - 1, high]),
+        1 => {
+            let power = 1 << random.below(digits);
+            random.near(power).clamp(low, high)
+        }
+        2 => random.short(digits).clamp(low, high),
+        _ => random.between(low, high),
+    }
+}
+
+/// Just outside, one that looks right in its low half, by a wide one, or any.
+pub fn broken(random: &mut Random, (low, high): Limits) -> u64 {
+    loop {
+        let x = match random.below(5) {
+            0 => random.pick(&[low.saturating_sub(1), high + 1, high + 2, 2 * high]),
+            1 => (random.next() << 32) + random.between(low, high),
+            2 => {
+                let wide = random.pick(&WIDE);
+                random.near(wide)
+            }
+            3 => {
+                let power = 1 << random.below(64);
+                random.near(power)
+            }
+            _ => random.short(64),
+        };
+        if !within(x, (low, high)) {
+            return x;
+        }
+    }
+}
+
+fn successes(random: &mut Random, t: u64) -> u64 {
+    let any = random.between(0, t);
+    random.pick(&[0, 1, t - 1, t, t, any]).min(t)
+}
+
+fn norm_bound(random: &mut Random) -> u64 {
+    if random.once_in(2) {
+        random.pick(&STEPS)
+    } else {
+        allowed(random, N)
+    }
+}
+
+/// By one of the lengths that it cuts: 1, all, one more, a part that leaves a short chunk; rarely a long one.
+fn chunk(random: &mut Random, lengths: &[u64]) -> u64 {
+    let length = random.pick(lengths);
+    let chunk = match random.below(128) {
+        0 => random.pick(&[65535, 65536]),
+        1..24 => 1,
+        24..48 => random.near(length),
+        _ => {
+            let part = length / (1 + random.below(9));
+            random.near(part)
+        }
+    };
+    chunk.clamp(1, 65536)
+}
+
+fn with_chunks(random: &mut Random, n: u64, d: u64, f: u64, t: u64) -> Param {
+    let mut param = Param { n, d, f, c: 1, e: 1, t, k: successes(random, t) };
+    let checked = Sizes::of(&param).checked as u64;
+    param.c = chunk(random, &[checked, checked, t]);
+    param.e = chunk(random, &[d]);
+    param
+}
+
+/// Any that are within their limits.
+pub fn any(random: &mut Random) -> Param {
+    let (n, d, f, t) = (norm_bound(random), allowed(random, D), allowed(random, F), allowed(random, T));
+    let mut param = with_chunks(random, n, d, f, t);
+    if random.once_in(2) {
+        (param.c, param.e) = (allowed(random, CHUNK), allowed(random, CHUNK));
+    }
+    param
+}
+
+/// d and T: most often few, so that there can be millions of calls; 1 in 16 some hundreds and dozens, 1 in 128 of
+/// any length that is allowed, 1 in 1024 the longest.
+fn shape(random: &mut Random) -> (u64, u64) {
+    match random.below(1024) {
+        0 => (D.1 - random.below(4), T.1 - random.below(2)),
+        1..8 => (1 + random.short(16), 1 + random.short(8)),
+        8..64 => (1 + random.short(9), 1 + random.short(5)),
+        64..256 => (1 + random.below(24), 1 + random.below(9)),
+        _ => (1 + random.below(9), 1 + random.below(3)),
+    }
+}
+
+/// One input just beyond its limit, so that the rows can have the lengths which that would give.
+fn just_beyond(random: &mut Random, param: &mut Param) {
+    match random.below(7) {
+        0 => param.n = N.1 + 1,
+        1 => param.d = D.1 + 1,
+        2 => param.f = F.1 + 1,
+        3 => param.c = CHUNK.1 + 1,
+        4 => param.e = CHUNK.1 + 1,
+        5 => param.t = T.1 + 1,
+        _ => param.k = param.t + 1,
+    }
+}
+
+/// For a call that has rows.
+pub fn for_rows(random: &mut Random) -> Param {
+    let (d, t) = shape(random);
+    let (n, f) = (norm_bound(random), if random.once_in(2) { 0 } else { random.between(F.0, F.1) });
+    let mut param = with_chunks(random, n, d, f, t);
+    if random.once_in(128) {
+        just_beyond(random, &mut param);
+    }
+    param
+}

@@ -1,0 +1,68 @@
+//! A row as a call gets it: in memory whose every word is known, between guards.
+
+use crate::{case::Row, random::Random};
+
+pub struct Lent {
+    memory: Vec<u64>,
+    before: Vec<u64>,
+    /// In bytes.
+    start: usize,
+    pub len: usize,
+}
+
+impl Lent {
+    fn of_words(random: &mut Random, row: &[u64]) -> Lent {
+        let mut memory = guard(random);
+        let start = 8 * memory.len();
+        memory.extend_from_slice(row);
+        memory.extend(guard(random));
+        Lent { before: memory.clone(), memory, start, len: row.len() }
+    }
+
+    /// At any byte.
+    fn of_bytes(random: &mut Random, row: &[u8]) -> Lent {
+        let start = 8 + random.index(8);
+        let mut bytes = random.bytes(start);
+        bytes.extend_from_slice(row);
+        let rest = random.bytes(8 + (8 - bytes.len() % 8));
+        bytes.extend(rest);
+        let memory: Vec<u64> = bytes.chunks_exact(8).map(|x| u64::from_le_bytes(x.try_into().unwrap())).collect();
+        Lent { before: memory.clone(), memory, start, len: row.len() }
+    }
+
+    pub fn new(random: &mut Random, row: &Row) -> Lent {
+        match row {
+            Row::Stream(bytes) => Lent::of_bytes(random, bytes),
+            Row::Doubles(row) | Row::Elements(row) | Row::Aggregate(row) | Row::Written(row) => {
+                Lent::of_words(random, row)
+            }
+        }
+    }
+
+    pub fn pointer<E>(&mut self) -> *mut E {
+        // in the memory, or at its end
+        unsafe { self.memory.as_mut_ptr().cast::<u8>().add(self.start).cast() }
+    }
+
+    /// The row as it is now; not for bytes.
+    pub fn now(&self) -> &[u64] {
+        &self.memory[self.start / 8..][..self.len]
+    }
+
+    /// Whether the row and its guards are as they were.
+    pub fn is_unchanged(&self) -> bool {
+        self.memory == self.before
+    }
+
+    /// Whether the guards alone are; not for bytes.
+    pub fn has_its_guards(&self) -> bool {
+        let (first, end) = (self.start / 8, self.start / 8 + self.len);
+        self.memory[..first] == self.before[..first] && self.memory[end..] == self.before[end..]
+    }
+}
+
+/// A few words, so that rows begin at every multiple of 8 bytes.
+fn guard(random: &mut Random) -> Vec<u64> {
+    let len = 2 + random.index(8);
+    random.words(len)
+}

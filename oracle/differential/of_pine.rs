@@ -1,0 +1,77 @@
+
+/// What the driver asks and cannot name from outside this module, called as it stands.
+pub mod opened {
+    use super::{vdaf::PineVec, *};
+    use crate::xofs::ChosenXof;
+    use prio_draft09::{flp::Type, vdaf::xof::Seed};
+
+    /// For n, d, f, c, e, T and K.
+    pub fn new(inputs: [u64; 7]) -> Result<Pine64, VdafError> {
+        let [norm_bound, dimension, frac_bits, chunk_len, chunk_len_sq_norm_equal, num_wr_tests, num_wr_successes] =
+            inputs.map(|x| x as usize);
+        let param = PineParam {
+            norm_bound: norm_bound as u64,
+            dimension,
+            frac_bits,
+            chunk_len,
+            chunk_len_sq_norm_equal,
+            num_proofs: 2,
+            num_proofs_sq_norm_equal: 1,
+            num_wr_tests,
+            num_wr_successes,
+        };
+        Pine::new(&param, 0xffff_ffff)
+    }
+
+    fn scale(frac_bits: usize) -> f64 {
+        f64::from(1 << frac_bits)
+    }
+
+    fn lengths(t: &impl Type) -> [usize; 6] {
+        [t.input_len(), t.proof_len(), t.verifier_len(), t.joint_rand_len(), t.prove_rand_len(), t.query_rand_len()]
+    }
+
+    /// The numbers of PineDerived, in its order; the scale by its bits.
+    pub fn record(pine: &Pine64) -> Vec<u64> {
+        let (t, e) = (&pine.flp, &pine.flp_sq_norm_equal);
+        let mut record = vec![t.dimension as u64, t.frac_bits as u64, scale(t.frac_bits).to_bits()];
+        record.extend([t.chunk_len, e.chunk_len, t.num_wr_tests, t.num_wr_successes].map(|x| x as u64));
+        record.extend([u64::from(t.sq_norm_bound), t.sq_norm_bits as u64]);
+        record.extend([u64::from(t.wr_test_bound), t.wr_test_bits as u64]);
+        record.extend([t.bit_checked_len, pine.encoded_input_len, t.input_len].map(|x| x as u64));
+        record.extend([t.gadget_calls, e.gadget_calls].map(|x| x as u64));
+        record.push((chunk_count(4, t.dimension) * t.num_wr_tests) as u64);
+        record.extend(lengths(t).map(|x| x as u64));
+        record.extend(lengths(e).map(|x| x as u64));
+        record
+    }
+
+    pub fn f64_to_field(x: f64, frac_bits: u64) -> Result<Field64, VdafError> {
+        super::f64_to_field(x, scale(frac_bits as usize))
+    }
+
+    pub fn field_to_f64(y: Field64, frac_bits: u64) -> Result<f64, VdafError> {
+        super::field_to_f64(y, scale(frac_bits as usize))
+    }
+
+    pub fn run_wr_tests(pine: &Pine64, gradient: &[Field64], seed: &Seed<16>) -> Vec<Field64> {
+        pine.flp.run_wr_tests::<ChosenXof, 16>(gradient, seed)
+    }
+
+    /// The gradient, the checked elements and the results, cut as `valid` does.
+    pub fn parts<'a>(pine: &Pine64, full: &'a [Field64]) -> [&'a [Field64]; 3] {
+        let (gradient, rest) = full.split_at(pine.flp.dimension);
+        let (checked, rest) = rest.split_at(pine.flp.bit_checked_len);
+        let (results, rest) = rest.split_at(pine.flp.num_wr_tests);
+        assert!(rest.is_empty());
+        [gradient, checked, results]
+    }
+
+    pub fn pine_vec(row: Vec<Field64>) -> PineVec<Field64> {
+        PineVec(row)
+    }
+
+    pub fn elements(row: PineVec<Field64>) -> Vec<Field64> {
+        row.0
+    }
+}

@@ -1,0 +1,162 @@
+//! The same calls of the original. What document 01 refuses is not put to it.
+
+use crate::case::{Call, Case, Row};
+use pine_oracle::{
+    pine::{opened, Pine64},
+    xofs::{choose_stream, ChosenXof},
+};
+use prio_draft09::{
+    codec::Decode,
+    field::Field64,
+    flp::{FlpError, Gadget, Type},
+    vdaf::{xof::Seed, Aggregatable, Aggregator, Collector},
+};
+use std::{
+    any::Any,
+    cell::{Cell, RefCell},
+    error::Error,
+    panic::{catch_unwind, set_hook, AssertUnwindSafe},
+    rc::Rc,
+};
+
+/// The values that a call gives back, and the rows that it writes.
+pub struct Given {
+    pub values: Vec<u64>,
+    pub rows: Vec<Vec<u64>>,
+}
+
+type Outcome<G> = Result<G, Box<dyn Error>>;
+
+fn values(values: Vec<u64>) -> Outcome<Given> {
+    Ok(Given { values, rows: vec![] })
+}
+
+fn rows(rows: Vec<Vec<u64>>) -> Outcome<Given> {
+    Ok(Given { values: vec![], rows })
+}
+
+fn fields(row: &Row) -> Vec<Field64> {
+    row.elements().iter().map(|x| Field64::from(*x)).collect()
+}
+
+fn words(row: &[Field64]) -> Vec<u64> {
+    row.iter().map(|x| u64::from(*x)).collect()
+}
+
+/// The chosen bytes are handed out whatever the seed.
+fn choose(stream: &Row) -> Seed<16> {
+    if let Row::Stream(bytes) = stream {
+        choose_stream(bytes.clone());
+    }
+    Seed::get_decoded(&[7; 16]).unwrap()
+}
+
+fn encode(pine: &Pine64, gradient: &Row, stream: &Row) -> Outcome<Given> {
+    let Row::Doubles(gradient) = gradient else { unreachable!() };
+    let gradient = gradient.iter().map(|x| f64::from_bits(*x));
+    let (measurement, results) = pine.flp.encode_with_wr_joint_rand::<ChosenXof, 16>(gradient, &choose(stream))?;
+    rows(vec![words(&measurement), words(&results)])
+}
+
+#[derive(Debug)]
+struct Counted {
+    inner: Box<dyn Gadget<Field64>>,
+    calls: Rc<Cell<u64>>,
+}
+
+impl Gadget<Field64> for Counted {
+    fn call(&mut self, inp: &[Field64]) -> Result<Field64, FlpError> {
+        self.calls.set(self.calls.get() + 1);
+        self.inner.call(inp)
+    }
+    fn call_poly(&mut self, outp: &mut [Field64], inp: &[Vec<Field64>]) -> Result<(), FlpError> {
+        self.inner.call_poly(outp, inp)
+    }
+    fn arity(&self) -> usize {
+        self.inner.arity()
+    }
+    fn degree(&self) -> usize {
+        self.inner.degree()
+    }
+    fn calls(&self) -> usize {
+        self.inner.calls()
+    }
+    fn as_any(&mut self) -> &mut dyn Any {
+        self
+    }
+}
+
+fn circuit(t: &impl Type<Field = Field64>, shares: u64, full: &Row, joint_rand: &[Field64]) -> Outcome<Given> {
+    let calls = Rc::new(Cell::new(0));
+    let counted = |inner| Box::new(Counted { inner, calls: calls.clone() }) as Box<dyn Gadget<Field64>>;
+    let mut gadget = t.gadget().into_iter().map(counted).collect();
+    let value = t.valid(&mut gadget, &fields(full), joint_rand, shares as usize)?;
+    values(vec![u64::from(value), calls.get()])
+}
+
+/// Where the part begins in the vector, and its length.
+fn part(pine: &Pine64, full: &Row, which: usize) -> Outcome<Given> {
+    let parts = opened::parts(pine, &fields(full)).map(|part| part.len() as u64);
+    values(vec![parts[..which].iter().sum(), parts[which]])
+}
+
+fn adding(agg: &Row, share: &Row, merge: bool) -> Outcome<Given> {
+    let (mut agg, share) = (opened::pine_vec(fields(agg)), opened::pine_vec(fields(share)));
+    if merge {
+        agg.merge(&share)?;
+    } else {
+        agg.accumulate(&share)?;
+    }
+    rows(vec![words(&opened::elements(agg))])
+}
+
+fn unshard(pine: &Pine64, left: &Row, right: &Row) -> Outcome<Given> {
+    let aggregates = [left, right].map(|row| opened::pine_vec(fields(row)));
+    let decoded = pine.unshard(&(), aggregates, 1)?;
+    rows(vec![decoded.iter().map(|x| x.to_bits()).collect()])
+}
+
+fn answer(case: &Case) -> Outcome<Given> {
+    let (number, f) = (case.number, case.param.f);
+    match case.call {
+        Call::F64ToField => return values(vec![opened::f64_to_field(f64::from_bits(number), f)?.into()]),
+        Call::FieldToF64 => return values(vec![opened::field_to_f64(Field64::from(number), f)?.to_bits()]),
+        _ => (),
+    }
+    let pine = opened::new(case.param.inputs())?;
+    match (case.call, &case.rows[..]) {
+        (Call::CheckParam, []) => values(vec![]),
+        (Call::Derive, []) => values(opened::record(&pine)),
+        (Call::Encode, [gradient, stream, ..]) => encode(&pine, gradient, stream),
+        (Call::RunWrTests, [gradient, stream, _]) => {
+            rows(vec![words(&opened::run_wr_tests(&pine, &fields(gradient), &choose(stream)))])
+        }
+        (Call::Valid, [full, joint_rand]) => circuit(&pine.flp, number, full, &fields(joint_rand)),
+        (Call::ValidSqNormEqual, [full]) => circuit(&pine.flp_sq_norm_equal, number, full, &[]),
+        (Call::GradientPart, [full]) => part(&pine, full, 0),
+        (Call::CheckedPart, [full]) => part(&pine, full, 1),
+        (Call::ResultsPart, [full]) => part(&pine, full, 2),
+        (Call::EmptyAggregate, [_]) => rows(vec![words(&opened::elements(pine.aggregate(&(), [])?))]),
+        (Call::Accumulate, [agg, share]) => adding(agg, share, false),
+        (Call::Merge, [agg, other]) => adding(agg, other, true),
+        (Call::Unshard, [left, right, _]) => unshard(&pine, left, right),
+        _ => unreachable!(),
+    }
+}
+
+thread_local! {
+    static PANIC: RefCell<String> = const { RefCell::new(String::new()) };
+}
+
+/// Keeps what a panic says, instead of printing it.
+pub fn keep_panics() {
+    set_hook(Box::new(|info| PANIC.set(info.to_string())));
+}
+
+/// What it gives, or the error or panic.
+pub fn call(case: &Case) -> Result<Given, String> {
+    match catch_unwind(AssertUnwindSafe(|| answer(case))) {
+        Ok(outcome) => outcome.map_err(|error| format!("error: {error}")),
+        Err(_) => Err(PANIC.take()),
+    }
+}

@@ -1,0 +1,86 @@
+//! The seven inputs, their limits, and what document 01 derives from them.
+
+/// p.
+pub const P: u64 = 0xffff_ffff_0000_0001;
+
+/// From the least to the largest allowed.
+pub type Limits = (u64, u64);
+
+pub const N: Limits = (1, 3_037_000_499);
+pub const D: Limits = (1, 65536);
+pub const F: Limits = (0, 30);
+pub const CHUNK: Limits = (1, 65536);
+pub const T: Limits = (1, 256);
+pub const SHARES: Limits = (1, 255);
+
+pub fn within(x: u64, (low, high): Limits) -> bool {
+    low <= x && x <= high
+}
+
+/// n, d, f, c, e, T and K of the papers; the layout is that of PineParam in include/pine.h.
+#[repr(C)]
+#[derive(Clone, Copy)]
+pub struct Param {
+    pub n: u64,
+    pub d: u64,
+    pub f: u64,
+    pub c: u64,
+    pub e: u64,
+    pub t: u64,
+    pub k: u64,
+}
+
+impl Param {
+    pub fn inputs(&self) -> [u64; 7] {
+        [self.n, self.d, self.f, self.c, self.e, self.t, self.k]
+    }
+}
+
+fn digits(x: u128) -> usize {
+    (128 - x.leading_zeros()) as usize
+}
+
+pub struct Sizes {
+    /// B and its digits q.
+    pub bound: u128,
+    pub bits: usize,
+    /// b and w.
+    pub test_bound: u128,
+    pub test_bits: usize,
+    /// L.
+    pub checked: usize,
+    /// The stream's bytes for one test, and all.
+    pub per_test: usize,
+    pub stream: usize,
+    pub measurement: usize,
+    pub full: usize,
+}
+
+impl Sizes {
+    /// The inputs are within their limits, or not far beyond.
+    pub fn of(param: &Param) -> Sizes {
+        let (n, d, t) = (u128::from(param.n), param.d as usize, param.t as usize);
+        let bits = digits(n * n);
+        let test_bound = ((87 * n).div_ceil(10) + 1).next_power_of_two();
+        let test_bits = digits(2 * test_bound - 1);
+        let checked = 2 * bits + (1 + test_bits) * t;
+        let per_test = d.div_ceil(4);
+        Sizes {
+            bound: n * n,
+            bits,
+            test_bound,
+            test_bits,
+            checked,
+            per_test,
+            stream: t * per_test,
+            measurement: d + checked,
+            full: d + checked + t,
+        }
+    }
+
+    /// Of a test's result, centred.
+    pub fn in_range(&self, result: i128) -> bool {
+        let bound = self.test_bound as i128;
+        -bound < result && result <= bound
+    }
+}

@@ -1,0 +1,106 @@
+//! What a call must answer, by document 01 alone.
+
+use crate::{
+    case::{Call, Case, Row},
+    param::{within, Param, Sizes, CHUNK, D, F, N, P, SHARES, T},
+    whole,
+};
+use std::fmt::{Display, Formatter};
+
+#[repr(C)]
+#[derive(Clone, Copy, PartialEq, Eq)]
+pub struct Answer {
+    pub number: u64,
+    pub place: u64,
+}
+
+pub const ACCEPTED: Answer = Answer { number: 0, place: 0 };
+
+impl Display for Answer {
+    fn fmt(&self, to: &mut Formatter) -> std::fmt::Result {
+        if *self == ACCEPTED {
+            return write!(to, "accepted");
+        }
+        write!(to, "refused {} {}", self.number, self.place)
+    }
+}
+
+/// The refusal by a rule that is broken.
+fn rule(number: u64, broken: bool) -> Option<Answer> {
+    broken.then_some(Answer { number, place: 0 })
+}
+
+fn rule_at(number: u64, place: Option<usize>) -> Option<Answer> {
+    place.map(|place| Answer { number, place: place as u64 })
+}
+
+fn rule_4(param: &Param) -> Option<Answer> {
+    rule(4, !within(param.f, F))
+}
+
+fn rules_1_to_6(param: &Param) -> Option<Answer> {
+    rule(1, param.k > param.t)
+        .or(rule(2, !within(param.n, N)))
+        .or(rule(3, !within(param.d, D)))
+        .or(rule_4(param))
+        .or(rule(5, !within(param.c, CHUNK) || !within(param.e, CHUNK)))
+        .or(rule(6, !within(param.t, T)))
+}
+
+/// The lengths that the rows must have, but for the gradient of doubles.
+fn derived(call: Call, param: &Param) -> Vec<Option<usize>> {
+    let (d, t) = (Some(param.d as usize), Some(param.t as usize));
+    let sizes = Sizes::of(param);
+    match call {
+        Call::CheckParam | Call::Derive | Call::F64ToField | Call::FieldToF64 => vec![],
+        Call::Encode => vec![None, Some(sizes.stream), Some(sizes.measurement), t],
+        Call::RunWrTests => vec![d, Some(sizes.stream), t],
+        Call::Valid => vec![Some(sizes.full), Some(3)],
+        Call::ValidSqNormEqual | Call::GradientPart | Call::CheckedPart | Call::ResultsPart => vec![Some(sizes.full)],
+        Call::EmptyAggregate => vec![d],
+        Call::Accumulate | Call::Merge => vec![d, d],
+        Call::Unshard => vec![d, d, d],
+    }
+}
+
+fn rule_7(case: &Case) -> Option<Answer> {
+    let derived = derived(case.call, &case.param);
+    assert_eq!(derived.len(), case.rows.len());
+    let wrong = |(row, len): (&Row, &Option<usize>)| len.is_some_and(|len| len != row.len());
+    rule_at(7, case.rows.iter().zip(&derived).position(wrong).map(|at| at + 1))
+}
+
+fn rule_12(case: &Case) -> Option<Answer> {
+    rule_at(12, case.rows.iter().flat_map(|row| row.elements()).position(|x| *x >= P))
+}
+
+fn rule_13(case: &Case) -> Option<Answer> {
+    rule(13, case.call.has_shares() && !within(case.number, SHARES))
+}
+
+fn rules_8_to_11(case: &Case) -> Option<Answer> {
+    let [Row::Doubles(gradient), Row::Stream(stream), ..] = &case.rows[..] else {
+        return None;
+    };
+    let sizes = Sizes::of(&case.param);
+    rule_at(8, gradient.iter().position(|x| !whole::usable(*x)))
+        .or_else(|| rule(9, gradient.len() as u64 != case.param.d))
+        .or_else(|| {
+            let numbers = whole::floors(gradient, case.param.f);
+            rule(10, u128::from(whole::squared_norm(&numbers)) > sizes.bound)
+                .or_else(|| rule_at(11, whole::results(&numbers, stream, &sizes).position(|r| !sizes.in_range(r))))
+        })
+}
+
+pub fn answer(case: &Case) -> Answer {
+    let refusal = match case.call {
+        Call::F64ToField => rule_4(&case.param).or(rule(8, !whole::usable(case.number))),
+        Call::FieldToF64 => rule_4(&case.param).or(rule(12, case.number >= P)),
+        _ => rules_1_to_6(&case.param)
+            .or_else(|| rule_7(case))
+            .or_else(|| rule_13(case))
+            .or_else(|| rule_12(case))
+            .or_else(|| rules_8_to_11(case)),
+    };
+    refusal.unwrap_or(ACCEPTED)
+}
