@@ -1,7 +1,3 @@
--- What the proofs of the functions cite: `Chunks`, `Powers`, `Turns` and `TestTurns` of the loops, `Verdicts` of the rules, `Cut` of the parts of the vector.
-mod Chunks
-mod Powers
-mod Turns
-mod TestTurns
+-- What the proofs of the functions cite: `Verdicts` of the rules, `Cut` of the parts of the vector.
 mod Verdicts
 mod Cut
