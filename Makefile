@@ -1,13 +1,18 @@
 # Thin: each target is one command.
 .PHONY: test demo differential bench lib example attack
 
+kit = @command -v rt >/dev/null || { echo "rt is not on the PATH: install the Rattle kit" >&2; exit 1; }
+
 # the gate: .ci/run runs this
 test:
+	$(kit)
 	rt ci
 
-# the main job, as a tutorial: two controllers of valves, two servers, a day's reports
+# the main job, as a tutorial: two controllers of valves, two servers, a day's reports. rt try runs the program with no
+# proof, four ways, and holds what each writes to the file that is shown then
 demo:
-	rt check demo && target/bin/demo
+	$(kit)
+	rt try demo && cat crates/demo/stdout
 
 # every call of the archive beside the original Rust, in both of its profiles; ORACLE is the folder in which the
 # original was built (oracle/README.md); SEED and COUNT, if set, draw other cases
@@ -21,6 +26,7 @@ bench:
 
 # target/staticlib/libpine_c.a, with its header beside it (docs/C.md)
 lib:
+	$(kit)
 	rt staticlib pine_c && cp include/pine.h target/staticlib/
 
 # builds the C example with gcc and with g++, and runs it
