@@ -25,7 +25,7 @@ use Rattle.pine.proofs.Sizes.{bound-64, norm-64, bound-positive}
 use Rattle.pine.proofs.Lengths.{row-right}
 use Rattle.flp.specs.Tests.{testsOf}
 use Rattle.flp.specs.Encode.{elements, sqNorm, resultsOf, measurementOf, coordinatesRule, gradientLenRule, sqNormRule, inRange, rangeRule, encodeOutcome, encodeRules, encodeAnswer, encodeOf}
-use Rattle.encode.specs.Steps.{Usable, checkedOf}
+use Rattle.measurement.specs.Parts.{Usable, checkedOf}
 use Rattle.encode.proofs.Coordinates.{all-usable}
 
 -- each as the last rule of a chain

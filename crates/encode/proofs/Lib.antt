@@ -1,4 +1,3 @@
--- What the proofs of the functions cite: `Coordinates` of the loops over the gradient and the results, `Written` of rows of bits, `Encoding` of the cases of the call.
+-- What the proofs of the functions cite: `Coordinates` of the loops over the gradient and the results, `Encoding` of the cases of the call.
 mod Coordinates
-mod Written
 mod Encoding

@@ -55,8 +55,8 @@ fn encode_usable(
     if late.number != 0 {
         return late;
     }
-    steps::write_measurement(pine, gradient, v, found, measurement);
-    steps::copy_row(found, results);
+    measurement::write_measurement(pine, gradient, v, found, measurement);
+    measurement::copy_row(found, results);
     late
 }
 

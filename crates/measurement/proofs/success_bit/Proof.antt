@@ -1,7 +1,7 @@
--- `encode::steps::success_bit` meets its contract. Assumes nothing.
-use Rattle.encode.proofs.Written.{success-yet, success-none}
-use Rattle.encode.proofs.steps.success_bit.Statement.{statement}
-use Rattle.encode.proofs.steps.success_bit.Tie as tie
+-- `measurement::success_bit` meets its contract. Assumes nothing.
+use Rattle.measurement.proofs.Written.{success-yet, success-none}
+use Rattle.measurement.proofs.success_bit.Statement.{statement}
+use Rattle.measurement.proofs.success_bit.Tie as tie
 
 returns : tie.Need-returns
 returns c = success-yet (c .before .args .successes) (c .before .args .t) (c .if1 .taken)

@@ -1,0 +1,2 @@
+-- What the writers of a measurement give.
+pub mod Parts
