@@ -127,6 +127,7 @@ def limits_coord():
     for f in TOO_FINE:
         yield coord(f, bits_of(1.0))
         yield coord(f, bits_of(math.inf))
+    yield from (Case("coord", f"coord 0 {word}", refused(0)) for word in ("0x3ff8000000000000", "0xBFF8000000000000", "0x0"))
 
 
 def sweep_coord():
