@@ -5,12 +5,12 @@ use crate::answers::bad;
 use crate::answers::refused;
 use crate::circuits;
 use crate::inputs::read_param;
-use crate::patterns::double_of;
-use crate::patterns::pattern_of;
 use crate::print;
 use crate::reports;
-use crate::words;
-use crate::words::Cursor;
+use lines::patterns::double_of;
+use lines::patterns::pattern_of;
+use lines::words;
+use lines::words::Cursor;
 use pine::record::Lengths;
 use pine::record::Pine;
 

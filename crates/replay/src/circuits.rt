@@ -3,9 +3,9 @@ use crate::answers::bad;
 use crate::answers::refused;
 use crate::inputs::read_param;
 use crate::print;
-use crate::words;
-use crate::words::Cursor;
 use flp::Circuit;
+use lines::words;
+use lines::words::Cursor;
 
 fn answer_circuit(out: &mut [u8], at: usize, circuit: Circuit) -> usize {
     let answer = circuit.answer;

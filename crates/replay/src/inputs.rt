@@ -1,6 +1,6 @@
 // The seven inputs of a case.
-use crate::words;
-use crate::words::Cursor;
+use lines::words;
+use lines::words::Cursor;
 use pine::PineParam;
 
 pub struct ReadParam {

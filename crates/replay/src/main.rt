@@ -7,11 +7,8 @@ mod answers;
 mod cases;
 mod circuits;
 mod inputs;
-mod patterns;
 mod print;
 mod reports;
-mod rows;
-mod words;
 
 ghost use mathlib.Core.Path.{_≡_};
 ghost use Prim.Native.Nat.{_≤_};

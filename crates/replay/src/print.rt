@@ -1,7 +1,7 @@
 // Answers are collected in a lent buffer, which is written out where it is full. A function here
 // takes how many bytes wait in the buffer, and answers how many wait then.
-use crate::patterns::pattern_of;
 use libc::STDOUT_FILENO;
+use lines::patterns::pattern_of;
 
 // Writes out the bytes that wait.
 pub fn flush(out: &[u8], at: usize) {

@@ -1,0 +1,2 @@
+-- What the contracts of the readers of rows cite.
+pub mod Rows
