@@ -1,4 +1,4 @@
--- The laws of arithmetic modulo any number (`Modular`, `Ring`, `Sums`, `Inverse`), and what the proofs of Field64's functions cite (`Halves`, `Residue`, `Words`).
+-- The laws of arithmetic modulo any number (`Modular`, `Ring`, `Sums`, `Inverse`), and what the proofs of Field64's functions cite (`Halves`, `Residue`, `Words`, `ByBits`).
 pub mod Modular
 pub mod Ring
 pub mod Sums
@@ -6,3 +6,4 @@ pub mod Inverse
 mod Halves
 mod Residue
 mod Words
+mod ByBits

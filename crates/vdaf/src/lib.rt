@@ -67,7 +67,7 @@ fn add_rows(agg: &mut [u64], share: &[u64])
 {
     let mut i = 0;
     while i < agg.len() {
-        agg[i] = field64::add(agg[i], share[i]);
+        agg[i] = field64::add_by_bits(agg[i], share[i]);
         i += 1;
     }
 }

@@ -39,20 +39,20 @@ abbrev μ-loop : tie.MeasureT-loop
 loop-holds : tie.Need-loop-holds Inv-loop μ-loop
 loop-holds c = (search needs, refl, refl)
 
-mul-add : tie.Need-mul-add Inv-loop μ-loop
-mul-add c = search needs
+mul-add-by-bits : tie.Need-mul-add-by-bits Inv-loop μ-loop
+mul-add-by-bits c = search needs
 
-slice-read-add : tie.Need-slice-read-add Inv-loop μ-loop
-slice-read-add c = search needs
+slice-read-add-by-bits : tie.Need-slice-read-add-by-bits Inv-loop μ-loop
+slice-read-add-by-bits c = search needs
 
-mul-add-2 : tie.Need-mul-add-2 Inv-loop μ-loop
-mul-add-2 c = search needs
+mul-add-by-bits-2 : tie.Need-mul-add-by-bits-2 Inv-loop μ-loop
+mul-add-by-bits-2 c = search needs
 
-shared-slice-read-add : tie.Need-shared-slice-read-add Inv-loop μ-loop
-shared-slice-read-add c = search needs
+shared-slice-read-add-by-bits : tie.Need-shared-slice-read-add-by-bits Inv-loop μ-loop
+shared-slice-read-add-by-bits c = search needs
 
-add-requires : tie.Need-add-requires Inv-loop μ-loop
-add-requires c κs =
+add-by-bits-requires : tie.Need-add-by-bits-requires Inv-loop μ-loop
+add-by-bits-requires c κs =
     let l = c .before .before .before in
     let s = l .before .before .before in
     reads-below (s .args .agg .now) (s .args .share .now) (l .loop .agg) (l .loop .i) (s .pre) (l .loop .inv) (omega arith)
@@ -73,7 +73,7 @@ loop-again : tie.Need-loop-again Inv-loop μ-loop
 loop-again c =
     let l = c .before .before .before .before in
     let s = l .before .before .before in
-    turn (s .args .agg .now) (s .args .share .now) (l .loop .agg) (l .loop .i) (s .pre) (l .loop .inv) (omega arith) (c .add .result) (c .add .ensures)
+    turn (s .args .agg .now) (s .args .share .now) (l .loop .agg) (l .loop .i) (s .pre) (l .loop .inv) (omega arith) (c .add-by-bits .result) (c .add-by-bits .ensures)
 
 same-length : tie.Need-same-length Inv-loop μ-loop
 same-length c = c .before .loop .inv .1
@@ -91,11 +91,11 @@ add-rows-spec =
     Inv-loop
     μ-loop
     loop-holds
-    mul-add
-    slice-read-add
-    mul-add-2
-    shared-slice-read-add
-    add-requires
+    mul-add-by-bits
+    slice-read-add-by-bits
+    mul-add-by-bits-2
+    shared-slice-read-add-by-bits
+    add-by-bits-requires
     mul-agg
     slice-write-agg
     add-i
