@@ -61,7 +61,7 @@ def points(rows, tests, way):
     """For each series, how many times as fast as a way, by the dimension."""
     for name, which, _ in SERIES:
         mine = [r for r in rows_of(name, which, rows, tests) if way(r)]
-        yield [(r.length, way(r).median / r.ours.median) for r in mine]
+        yield [(r.length, way(r).median) for r in mine]
 
 
 def panel(heading, series, ticks, dimensions, left, right):
@@ -93,7 +93,7 @@ def legend():
 def picture(rows, tests):
     calls = [r for r in rows if r.kind == "call"]
     dimensions = sorted({r.length for r in calls if r.name == "encode"})
-    pairs = (("the original's time / ours", lambda r: r.original), ("time by hand / ours", lambda r: r.by_hand))
+    pairs = (("the original's time / ours", lambda r: r.to_original), ("time by hand / ours", lambda r: r.to_by_hand))
     series = [list(points(calls, tests, way)) for _, way in pairs]
     times = [t for panel_series in series for line in panel_series for _, t in line] + [1]
     below = max((t for t in TICKS if t <= min(times)), default=TICKS[0])

@@ -196,24 +196,35 @@ fn quartiles(mut all: Vec<f64>) -> [f64; 3] {
     [1, 2, 3].map(|quarters| all[(all.len() - 1) * quarters / 4])
 }
 
-fn measure(row: &Row, random: &mut Random) -> Each<[f64; 3]> {
-    let mut times: [Vec<f64>; 4] = Default::default();
+fn measure(row: &Row, random: &mut Random) -> Vec<Each<f64>> {
+    let mut times = vec![];
     let begin = Instant::now();
-    let mut done = 0;
-    while !enough(done, begin.elapsed()) {
-        for (all, ns) in times.iter_mut().zip((row.repeat)(random, done)) {
-            all.extend(ns);
-        }
-        done += 1;
+    while !enough(times.len(), begin.elapsed()) {
+        times.push((row.repeat)(random, times.len()));
     }
-    times.map(|all| (!all.is_empty()).then(|| quartiles(all)))
+    times
 }
 
-fn print(title: &Title, times: Each<[f64; 3]>) {
+/// The quartiles of what each repetition has, if it has it.
+fn spread(times: &[Each<f64>], of: impl Fn(&Each<f64>) -> Option<f64>) -> String {
+    let all: Vec<f64> = times.iter().filter_map(of).collect();
+    if all.is_empty() {
+        return String::new();
+    }
+    quartiles(all).map(|x| format!("{x:.5}")).join(" ")
+}
+
+/// One way's time over another's, in the same repetition: the machine's speed changes between repetitions.
+fn ratio(times: &[Each<f64>], way: usize, other: usize) -> String {
+    spread(times, |t| Some(t[way]? / t[other]?))
+}
+
+fn print(title: &Title, times: &[Each<f64>]) {
     let Title { kind, name, length, tests, note, of, .. } = title;
     let tests = tests.map(|t| t.to_string()).unwrap_or_default();
-    let times = times.map(|t| t.map(|q| q.map(|x| format!("{x:.5}")).join(" ")).unwrap_or_default());
-    println!("{kind}\t{name}\t{length}\t{tests}\t{note}\t{of}\t{}", times.join("\t"));
+    let ways = [0, 1, 2, 3].map(|way| spread(times, |t| t[way])).join("\t");
+    let ratios = [(0, 1), (2, 1), (1, 3)].map(|(way, other)| ratio(times, way, other)).join("\t");
+    println!("{kind}\t{name}\t{length}\t{tests}\t{note}\t{of}\t{ways}\t{ratios}");
 }
 
 fn main() {
@@ -221,6 +232,6 @@ fn main() {
     let mut random = Random(SystemTime::UNIX_EPOCH.elapsed().unwrap().as_nanos() as u64);
     let rows = memory::table().into_iter().chain(calls::table()).chain(leaves::table());
     for row in rows.filter(|r| r.title.kind == "memory" || r.title.text().contains(&only)) {
-        print(&row.title, measure(&row, &mut random));
+        print(&row.title, &measure(&row, &mut random));
     }
 }
