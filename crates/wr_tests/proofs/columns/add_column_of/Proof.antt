@@ -1,8 +1,7 @@
 -- `wr_tests::columns::add_column_of` meets its contract. Assumes nothing.
-use mathlib.Core.Path.{_∙_}
 use borrow.Author.Needs.{needs}
 use Rattle.field64.specs.Field.{p64}
-use Rattle.wr_tests.specs.Columns.{addColumn}
+use Rattle.wr_tests.proofs.Swapped.{column-read}
 use Rattle.wr_tests.proofs.columns.add_column_of.Statement.{statement}
 use Rattle.wr_tests.proofs.columns.add_column_of.Tie as tie
 
@@ -48,8 +47,18 @@ same-length c = search needs
 returns : tie.Need-returns
 returns c =
     let s = c .before .before .before .before .before .before .before .before .before .before .before in
-    c .before .before .add-column .ensures
-    ∙ (λ i. addColumn p64 (s .args .per) (s .args .j) (c .before .before .before .before .before .before .before .at .ensures .1 i) (c .before .before .before .before .before .before .at2 .ensures .1 i) (c .before .before .before .before .before .at3 .ensures .1 i) (c .before .before .before .before .at4 .ensures .1 i) (s .args .stream .now) (s .args .results .now))
+    column-read
+    p64
+    (s .args .per)
+    (s .args .j)
+    (s .args .stream .now)
+    (s .args .results .now)
+    _
+    (c .before .before .add-column .ensures)
+    (c .before .before .before .before .before .before .before .at .ensures .1)
+    (c .before .before .before .before .before .before .at2 .ensures .1)
+    (c .before .before .before .before .before .at3 .ensures .1)
+    (c .before .before .before .before .at4 .ensures .1)
 
 pub add-column-of-spec : {M : Type 1} → statement M
 add-column-of-spec =
