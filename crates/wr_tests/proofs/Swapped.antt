@@ -108,6 +108,7 @@ module _ (p per : ℕ) (s xs d : List ℕ) where
       e ∙ ap (testsOf p per T s) (take-all (4 * j) xs f)
 
 -- a row as long as another has the same room
+-- the same column, its coordinates named otherwise
 pub column-read : (p per j : ℕ) (s d d′ : List ℕ) {a b u v a′ b′ u′ v′ : ℕ} → d′ ≡ addColumn p per j a b u v s d → a ≡ a′ → b ≡ b′ → u ≡ u′ → v ≡ v′ → d′ ≡ addColumn p per j a′ b′ u′ v′ s d
 column-read p per j s d d′ e f g h k = e ∙ (λ i. addColumn p per j (f i) (g i) (h i) (k i) s d)
 
