@@ -95,11 +95,12 @@ module _ (p per : ℕ) (s xs d : List ℕ) where
   pub columns-below : (j T : ℕ) → 0 < p → d ≡ testsOf p per T s (take (4 * j) xs) → Below p d
   columns-below j T h e = rw e (tests-below p h per T s (take (4 * j) xs))
 
-  pub columns-next : (j T : ℕ) → j < per → T * per ≤ length s → d ≡ testsOf p per T s (take (4 * j) xs)
-      → addColumn p per j (getD xs (4 * j) 0) (getD xs (4 * j + 1) 0) (getD xs (4 * j + 2) 0) (getD xs (4 * j + 3) 0) s d ≡ testsOf p per T s (take (4 * (j + 1)) xs)
-  columns-next j T h l e =
+  pub columns-next : (j T : ℕ) (d′ : List ℕ) → j < per → T * per ≤ length s → d ≡ testsOf p per T s (take (4 * j) xs)
+      → d′ ≡ addColumn p per j (getD xs (4 * j) 0) (getD xs (4 * j + 1) 0) (getD xs (4 * j + 2) 0) (getD xs (4 * j + 3) 0) s d
+      → d′ ≡ testsOf p per T s (take (4 * (j + 1)) xs)
+  columns-next j T d′ h l e g =
       let f : 4 * j + 4 ≡ 4 * (j + 1) = omega arith in
-      rw e (tests-next p per j xs h T s l ∙ ap (λ (n : ℕ). testsOf p per T s (take n xs)) f)
+      g ∙ rw e (tests-next p per j xs h T s l ∙ ap (λ (n : ℕ). testsOf p per T s (take n xs)) f)
 
   pub columns-end : (j T : ℕ) → per ≤ j → length xs ≤ 4 * per → d ≡ testsOf p per T s (take (4 * j) xs) → d ≡ testsOf p per T s xs
   columns-end j T h l e =
@@ -107,5 +108,9 @@ module _ (p per : ℕ) (s xs d : List ℕ) where
       e ∙ ap (testsOf p per T s) (take-all (4 * j) xs f)
 
 -- a row as long as another has the same room
+-- the same column, its coordinates named otherwise
+pub column-read : (p per j : ℕ) (s d d′ : List ℕ) {a b u v a′ b′ u′ v′ : ℕ} → d′ ≡ addColumn p per j a b u v s d → a ≡ a′ → b ≡ b′ → u ≡ u′ → v ≡ v′ → d′ ≡ addColumn p per j a′ b′ u′ v′ s d
+column-read p per j s d d′ e f g h k = e ∙ (λ i. addColumn p per j (f i) (g i) (h i) (k i) s d)
+
 pub same-room : (n m per k : ℕ) → n ≡ m → m * per ≤ k → n * per ≤ k
 same-room n m per k e h = rw e h

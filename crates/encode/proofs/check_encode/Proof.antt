@@ -1,6 +1,6 @@
 -- `encode::check_encode` meets its contract. Assumes nothing.
 use mathlib.Core.Path.{_≡_, sym, ap, _∙_}
-use borrow.Author.Needs.{needs}
+use native.Mathlib.Omega.{arith}
 use lib.ListN.{length}
 use Rattle.rules.specs.declared.Answer.{Answer}
 use Rattle.rules.specs.Rules.{accepted, first}
@@ -19,7 +19,7 @@ passed : (c : tie.Else1) → paramAnswer Field64 (c .before .before .before .bef
 passed c = param-accepted Field64 _ (ap (λ (a : Answer). a .number) (sym (c .before .before .check-param .ensures)) ∙ c .if1 .left)
 
 check-param-requires : tie.Need-check-param-requires
-check-param-requires c κs = search needs
+check-param-requires c κs = omega arith
 
 returns : tie.Need-returns
 returns c =
@@ -33,31 +33,31 @@ stream-len-requires : tie.Need-stream-len-requires
 stream-len-requires c κs = record { param = _; accepts = passed (c .before); is = c .new .ensures }
 
 check-len-requires : tie.Need-check-len-requires
-check-len-requires c κs = search needs
+check-len-requires c κs = omega arith
 
 check-len-requires-2 : tie.Need-check-len-requires-2
-check-len-requires-2 c κs = search needs
+check-len-requires-2 c κs = omega arith
 
 check-len-requires-3 : tie.Need-check-len-requires-3
-check-len-requires-3 c κs = search needs
+check-len-requires-3 c κs = omega arith
 
 check-coordinates-requires : tie.Need-check-coordinates-requires
-check-coordinates-requires c κs = search needs
+check-coordinates-requires c κs = omega arith
 
 check-gradient-len-requires : tie.Need-check-gradient-len-requires
-check-gradient-len-requires c κs = search needs
+check-gradient-len-requires c κs = omega arith
 
 or-requires : tie.Need-or-requires
-or-requires c κs = search needs
+or-requires c κs = omega arith
 
 or-requires-2 : tie.Need-or-requires-2
-or-requires-2 c κs = search needs
+or-requires-2 c κs = omega arith
 
 or-requires-3 : tie.Need-or-requires-3
-or-requires-3 c κs = search needs
+or-requires-3 c κs = omega arith
 
 or-requires-4 : tie.Need-or-requires-4
-or-requires-4 c κs = search needs
+or-requires-4 c κs = omega arith
 
 returns-2 : tie.Need-returns-2
 unfolding pineOf

@@ -1,7 +1,6 @@
 -- `encode::encode_usable` meets its contract. Assumes nothing.
 use mathlib.Core.Path.{_∙_}
 use native.Mathlib.Omega.{arith}
-use borrow.Author.Needs.{needs}
 use Rattle.field64.specs.Field.{p64}
 use lib.ListN.{length}
 use Rattle.pine.specs.Param.{Field64}
@@ -16,7 +15,7 @@ new-requires c κs =
     ready Field64 (s .args .param) (s .args .gradient .now) (s .args .stream .now) (s .args .measurement .now) (s .args .results .now) (s .pre .0) .inputs
 
 add-per : tie.Need-add-per
-add-per c = search needs
+add-per c = omega arith
 
 norm-and-tests-requires : tie.Need-norm-and-tests-requires
 norm-and-tests-requires c κs =
@@ -29,7 +28,7 @@ check-norm-and-tests-requires c κs =
     bounds-fit (s .args .param) _ (c .before .before .before .before .before .new .ensures) (ready Field64 (s .args .param) (s .args .gradient .now) (s .args .stream .now) (s .args .measurement .now) (s .args .results .now) (s .pre .0) .inputs) .0
 
 same-length : tie.Need-same-length
-same-length c = search needs
+same-length c = omega arith
 
 returns : tie.Need-returns
 returns c =
@@ -45,16 +44,16 @@ write-measurement-requires c κs =
     (ready Field64 (s .args .param) (s .args .gradient .now) (s .args .stream .now) (s .args .measurement .now) (s .args .results .now) (s .pre .0) .usable, (scale-is (s .args .param) _ e, (rest-long Field64 (s .args .param) (s .args .gradient .now) (s .args .stream .now) (s .args .measurement .now) (s .args .results .now) (s .pre .0) _ (t .kept .1 .1 .1 .1 .1 .0 ∙ s .pre .1) _ e, ((results-below p64 (omega arith) _ _ _ _ _ (t .ensures .1), (b .1 .0, b .0)), (t .ensures .0 .0, b .1 .1)))))
 
 copy-row-requires : tie.Need-copy-row-requires
-copy-row-requires c κs = search needs
+copy-row-requires c κs = omega arith
 
 same-length-2 : tie.Need-same-length-2
-same-length-2 c = search needs
+same-length-2 c = omega arith
 
 same-length-3 : tie.Need-same-length-3
-same-length-3 c = search needs
+same-length-3 c = omega arith
 
 same-length-4 : tie.Need-same-length-4
-same-length-4 c = search needs
+same-length-4 c = omega arith
 
 returns-2 : tie.Need-returns-2
 returns-2 c =

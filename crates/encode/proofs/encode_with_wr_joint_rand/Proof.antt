@@ -1,5 +1,6 @@
 -- `encode::encode_with_wr_joint_rand` meets its contract. Assumes nothing.
 use mathlib.Core.Path.{sym}
+use native.Mathlib.Omega.{arith}
 use borrow.Author.Needs.{needs}
 use lib.ListN.{length}
 use Rattle.pine.specs.Param.{Field64}
@@ -8,13 +9,13 @@ use Rattle.encode.proofs.encode_with_wr_joint_rand.Statement.{statement
 use Rattle.encode.proofs.encode_with_wr_joint_rand.Tie as tie
 
 check-encode-requires : tie.Need-check-encode-requires
-check-encode-requires c κs = search needs
+check-encode-requires c κs = omega arith
 
 same-length : tie.Need-same-length
-same-length c = search needs
+same-length c = omega arith
 
 same-length-2 : tie.Need-same-length-2
-same-length-2 c = search needs
+same-length-2 c = omega arith
 
 returns : tie.Need-returns
 returns c =
@@ -38,10 +39,10 @@ encode-usable-requires c κs =
     (e, part-long (length (s .args .results .now)) (few Field64 (s .args .param) (s .args .gradient .now) (s .args .stream .now) (s .args .measurement .now) (s .args .results .now) e))
 
 same-length-3 : tie.Need-same-length-3
-same-length-3 c = search needs
+same-length-3 c = omega arith
 
 same-length-4 : tie.Need-same-length-4
-same-length-4 c = search needs
+same-length-4 c = omega arith
 
 returns-2 : tie.Need-returns-2
 returns-2 c = search needs

@@ -45,52 +45,52 @@ loop-holds : tie.Need-loop-holds Inv-loop μ-loop
 loop-holds c = (search needs, refl, refl)
 
 mul-less : tie.Need-mul-less Inv-loop μ-loop
-mul-less c = search needs
+mul-less c = omega arith
 
 slice-read-less : tie.Need-slice-read-less Inv-loop μ-loop
-slice-read-less c = search needs
+slice-read-less c = omega arith
 
 mul-less-2 : tie.Need-mul-less-2 Inv-loop μ-loop
 mul-less-2 c =
     let l = c .before .before in
     let s = l .before .before .before in
-    omega (arith, inside (s .args .low .now) (s .args .high .now) (s .args .per) (s .args .j) (s .args .stream .now) (s .args .results .now) (l .loop .results) (l .loop .t) (l .loop .inv) (omega arith) (s .pre .0 .0) (s .pre .0 .1))
+    omega (arith, inside (s .args .low .now) (s .args .high .now) (s .args .per) (s .args .j) (s .args .stream .now) (s .args .results .now) (l .loop .results) (l .loop .t) (l .loop .inv) (c .before .loop-test .taken) (s .pre .0 .0) (s .pre .0 .1))
 
 add-less : tie.Need-add-less Inv-loop μ-loop
 add-less c =
     let l = c .before .before in
     let s = l .before .before .before in
-    omega (arith, inside (s .args .low .now) (s .args .high .now) (s .args .per) (s .args .j) (s .args .stream .now) (s .args .results .now) (l .loop .results) (l .loop .t) (l .loop .inv) (omega arith) (s .pre .0 .0) (s .pre .0 .1))
+    omega (arith, inside (s .args .low .now) (s .args .high .now) (s .args .per) (s .args .j) (s .args .stream .now) (s .args .results .now) (l .loop .results) (l .loop .t) (l .loop .inv) (c .before .loop-test .taken) (s .pre .0 .0) (s .pre .0 .1))
 
 shared-slice-read-less : tie.Need-shared-slice-read-less Inv-loop μ-loop
 shared-slice-read-less c =
     let l = c .before .before .before in
     let s = l .before .before .before in
-    omega (arith, inside (s .args .low .now) (s .args .high .now) (s .args .per) (s .args .j) (s .args .stream .now) (s .args .results .now) (l .loop .results) (l .loop .t) (l .loop .inv) (omega arith) (s .pre .0 .0) (s .pre .0 .1))
+    omega (arith, inside (s .args .low .now) (s .args .high .now) (s .args .per) (s .args .j) (s .args .stream .now) (s .args .results .now) (l .loop .results) (l .loop .t) (l .loop .inv) (c .before .before .loop-test .taken) (s .pre .0 .0) (s .pre .0 .1))
 
 less-requires : tie.Need-less-requires Inv-loop μ-loop
 less-requires c κs =
     let l = c .before .before .before in
     let s = l .before .before .before in
-    (small (s .args .low .now) (s .args .high .now) (s .args .per) (s .args .j) (s .args .stream .now) (s .args .results .now) (l .loop .results) (l .loop .t) (l .loop .inv) (omega arith) (s .pre .1 .1), (s .pre .1 .0 .0, s .pre .1 .0 .1))
+    (small (s .args .low .now) (s .args .high .now) (s .args .per) (s .args .j) (s .args .stream .now) (s .args .results .now) (l .loop .results) (l .loop .t) (l .loop .inv) (c .before .before .loop-test .taken) (s .pre .1 .1), (s .pre .1 .0 .0, s .pre .1 .0 .1))
 
 mul-results : tie.Need-mul-results Inv-loop μ-loop
-mul-results c = search needs
+mul-results c = omega arith
 
 slice-write-results : tie.Need-slice-write-results Inv-loop μ-loop
-slice-write-results c = search needs
+slice-write-results c = omega arith
 
 add-t : tie.Need-add-t Inv-loop μ-loop
-add-t c = search needs
+add-t c = omega arith
 
 loop-less : tie.Need-loop-less Inv-loop μ-loop
-loop-less c = search needs
+loop-less c = omega arith
 
 loop-again : tie.Need-loop-again Inv-loop μ-loop
 loop-again c =
     let l = c .before .before .before .before in
     let s = l .before .before .before in
-    turn (s .args .low .now) (s .args .high .now) (s .args .per) (s .args .j) (s .args .stream .now) (s .args .results .now) (l .loop .results) (l .loop .t) (l .loop .inv) (omega arith) (c .less .result) (c .less .ensures)
+    turn (s .args .low .now) (s .args .high .now) (s .args .per) (s .args .j) (s .args .stream .now) (s .args .results .now) (l .loop .results) (l .loop .t) (l .loop .inv) (c .before .before .before .loop-test .taken) (c .less .result) (c .less .ensures)
 
 same-length : tie.Need-same-length Inv-loop μ-loop
 same-length c = c .before .loop .inv .1

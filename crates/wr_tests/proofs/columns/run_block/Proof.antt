@@ -4,6 +4,7 @@ use Prim.Native.Nat.{ℕ, _-_, _*_, _≤_}
 use native.Mathlib.Omega.{arith}
 use borrow.Author.Needs.{needs}
 use lib.ListN.{length, take}
+use lib.Dec.{lit<}
 use Rattle.field64.specs.Field.{p64}
 use Rattle.flp.specs.Tests.{testsOf}
 use Rattle.wr_tests.proofs.Swapped.{columns-start, columns-below, columns-next, columns-end, same-room}
@@ -29,7 +30,7 @@ add-column-of-requires c κs =
     let l = c .before .before in
     let z = l .before .before .before in
     let s = z .before .before .before .before .before in
-    ((same-room _ _ (s .args .per) _ (l .loop .inv .1 ∙ z .zero-row .kept .0) (s .pre .0 .0), (omega arith, s .pre .0 .1 .1)), (s .pre .1, columns-below p64 (s .args .per) (s .args .stream .now) (s .args .gradient .now) _ (l .loop .j) _ (omega arith) (l .loop .inv .2)))
+    ((same-room _ _ (s .args .per) _ (l .loop .inv .1 ∙ z .zero-row .kept .0) (s .pre .0 .0), (c .before .loop-test .taken, s .pre .0 .1 .1)), (s .pre .1, columns-below p64 (s .args .per) (s .args .stream .now) (s .args .gradient .now) (l .loop .results) (l .loop .j) _ (lit< tt) (l .loop .inv .2)))
 
 add-j : tie.Need-add-j Inv-loop μ-loop
 add-j c = search needs
@@ -42,7 +43,7 @@ loop-again c =
     let l = c .before .before .before .before .before in
     let z = l .before .before .before in
     let s = z .before .before .before .before .before in
-    (omega arith, c .before .before .add-column-of .kept .1 .1 .1 .1 .0 ∙ l .loop .inv .1, c .before .before .add-column-of .ensures ∙ columns-next p64 (s .args .per) (s .args .stream .now) (s .args .gradient .now) _ (l .loop .j) _ (omega arith) (same-room _ _ (s .args .per) _ (z .zero-row .kept .0) (s .pre .0 .0)) (l .loop .inv .2))
+    (omega arith, c .before .before .add-column-of .kept .1 .1 .1 .1 .0 ∙ l .loop .inv .1, columns-next p64 (s .args .per) (s .args .stream .now) (s .args .gradient .now) (l .loop .results) (l .loop .j) _ _ (c .before .before .before .before .loop-test .taken) (same-room _ _ (s .args .per) _ (z .zero-row .kept .0) (s .pre .0 .0)) (l .loop .inv .2) (c .before .before .add-column-of .ensures))
 
 same-length : tie.Need-same-length Inv-loop μ-loop
 same-length c = c .before .loop .inv .1 ∙ c .before .before .before .before .zero-row .kept .0
@@ -52,7 +53,7 @@ returns c =
     let l = c .before in
     let z = c .before .before .before .before in
     let s = c .before .before .before .before .before .before .before .before .before in
-    columns-end p64 (s .args .per) (s .args .stream .now) (s .args .gradient .now) _ (l .loop .j) _ (omega arith) (s .pre .0 .1 .0) (l .loop .inv .2)
+    columns-end p64 (s .args .per) (s .args .stream .now) (s .args .gradient .now) (l .loop .results) (l .loop .j) _ (c .loop-test .left) (s .pre .0 .1 .0) (l .loop .inv .2)
     ∙ ap (λ (n : ℕ). testsOf p64 (s .args .per) n (s .args .stream .now) (s .args .gradient .now)) (z .zero-row .kept .0)
 
 pub run-block-spec : {M : Type 1} → statement M
