@@ -12,7 +12,7 @@ use Rattle.correctness.specs.Tally.{run, FieldRow, Call, Aggregates, Beg
 use Rattle.correctness.proofs.Tally.{zero-row, tallied}
 use Rattle.correctness.proofs.Report.{joined, read}
 use Rattle.field64.specs.Sums.{total}
-use Rattle.pine.specs.Rows.{addRows}
+use Rattle.rows.specs.Rows.{addRows}
 use Rattle.correctness.proofs.Cut.{Cut, shares, wholes, StandsFor, centredNumber, numbersSum}
 
 pub record Aggregated (F : Field) (d : ℕ) (s : Aggregates) (calls : List Call) (reports : List (Cut (F .p) d)) : Type 0 where

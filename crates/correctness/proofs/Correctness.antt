@@ -19,10 +19,10 @@ use Rattle.doubles.proofs.Laws.{round-neg, div-power}
 use Rattle.pine.specs.declared.PineParam.{PineParam}
 use Rattle.pine.specs.Param.{Field, Field64, paramAnswer}
 use Rattle.pine.specs.Record.{bytesPerTest}
-use Rattle.pine.specs.Rows.{Below, addRows}
-use Rattle.pine.specs.Outcome.{Outcome, outcome}
-use Rattle.pine.proofs.Elements.{below-take, below-at}
-use Rattle.pine.proofs.Added.{take-add, length-addRows, getD-addRows, add-below}
+use Rattle.rows.specs.Rows.{Below, addRows}
+use Rattle.rows.specs.Outcome.{Outcome, outcome}
+use Rattle.rows.proofs.Elements.{below-take, below-at}
+use Rattle.rows.proofs.Added.{take-add, length-addRows, getD-addRows, add-below}
 use Rattle.flp.specs.Tests.{testsOf, runTestsOf}
 use Rattle.flp.proofs.Gradient.{Room, room-64}
 use Rattle.flp.proofs.Valid.{accepted-inputs, long-enough, measurement-at, results-cut, left-alone, right-alone, main-cut, norm-cut}

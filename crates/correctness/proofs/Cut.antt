@@ -7,7 +7,7 @@ use lib.ListN.{getD}
 use lib.Dec.{ltb}
 use lib.IntN.{ℤ, pos, negℤ}
 use Rattle.doubles.specs.Doubles.{modP}
-use Rattle.pine.specs.Rows.{addRows}
+use Rattle.rows.specs.Rows.{addRows}
 use Rattle.correctness.specs.Tally.{FieldRow}
 use Rattle.correctness.specs.Correctness.{sumℤ}
 

@@ -11,12 +11,12 @@ use Rattle.correctness.proofs.Correctness.{correctness-64}
 use Rattle.correctness.proofs.Table.{table}
 use Rattle.correctness.specs.Correctness.{Report}
 use Rattle.correctness.specs.Table.{param, none, one, large}
-use Rattle.pine.proofs.Elements.{elements-below}
+use Rattle.rows.proofs.Elements.{elements-below}
 use Rattle.field64.specs.Field.{p64}
 use Rattle.doubles.specs.Doubles.{modP, floorDiv, floorOf, plusZero}
 use Rattle.pine.specs.declared.PineParam.{PineParam}
 use Rattle.pine.specs.Param.{Field64, paramRules, paramAnswer}
-use Rattle.pine.specs.Rows.{addRows, elementsRule}
+use Rattle.rows.specs.Rows.{addRows, elementsRule}
 use Rattle.vdaf.specs.Aggregates.{emptyAnswer, emptyOf, accumulateAnswer, accumulateOf, unshardOf}
 use Rattle.correctness.specs.Tally.{Call, Aggregates, step, run, Begun, FieldRow}
 use Rattle.correctness.proofs.Cut.{Cut, centredNumber}

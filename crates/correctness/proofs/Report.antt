@@ -10,8 +10,8 @@ use Rattle.field64.specs.Field.{addMod}
 use Rattle.field64.specs.Sums.{evaluate, total}
 use Rattle.field64.proofs.Modular.{modular}
 use Rattle.field64.proofs.Sums.{evaluate-below, total-cons, total-perm}
-use Rattle.pine.specs.Rows.{addRows}
-use Rattle.pine.proofs.Added.{getD-addRows}
+use Rattle.rows.specs.Rows.{addRows}
+use Rattle.rows.proofs.Added.{getD-addRows}
 use Rattle.correctness.specs.Tally.{Aggregate, Each, column, Tallied}
 use Rattle.correctness.proofs.Cut.{Cut, shares, wholes, StandsFor, centredNumber, numbersSum}
 use Rattle.correctness.specs.Correctness.{sumℤ}

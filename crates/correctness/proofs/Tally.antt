@@ -14,10 +14,10 @@ use Rattle.field64.specs.Sums.{evaluate, total}
 use Rattle.field64.proofs.Sums.{total-cons, total-append}
 use Rattle.pine.specs.declared.PineParam.{PineParam}
 use Rattle.pine.specs.Param.{Field}
-use Rattle.pine.specs.Rows.{Below, addRows}
-use Rattle.pine.specs.Outcome.{Outcome, outcome, finish}
-use Rattle.pine.proofs.Elements.{below-all, below-at}
-use Rattle.pine.proofs.Added.{length-addRows, getD-addRows, add-below}
+use Rattle.rows.specs.Rows.{Below, addRows}
+use Rattle.rows.specs.Outcome.{Outcome, outcome, finish}
+use Rattle.rows.proofs.Elements.{below-all, below-at}
+use Rattle.rows.proofs.Added.{length-addRows, getD-addRows, add-below}
 use Rattle.vdaf.specs.Aggregates.{emptyAnswer, emptyOf, accumulateAnswer, accumulateOf}
 use Rattle.vdaf.proofs.Accepted.{TwoRows, emptied, added}
 use Rattle.correctness.specs.Tally.{Aggregate, Aggregates, Call, after, put, step, run, Begun, FieldRow, Each, column, Tallied}

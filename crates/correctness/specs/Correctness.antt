@@ -10,8 +10,8 @@ use Rattle.doubles.specs.Doubles.{floorOf, power, plusZero}
 use Rattle.pine.specs.declared.PineParam.{PineParam}
 use Rattle.pine.specs.Param.{Field, paramAnswer}
 use Rattle.pine.specs.Record.{gadgetCalls, gadgetCallsNorm}
-use Rattle.pine.specs.Rows.{addRows}
-use Rattle.pine.specs.Outcome.{outcome}
+use Rattle.rows.specs.Rows.{addRows}
+use Rattle.rows.specs.Outcome.{outcome}
 use Rattle.flp.specs.declared.Circuit.{Circuit}
 use Rattle.flp.specs.Tests.{runTestsOf}
 use Rattle.flp.specs.Encode.{encodeOf, encodeOutcome}

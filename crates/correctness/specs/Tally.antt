@@ -9,8 +9,8 @@ use Rattle.rules.specs.Rules.{accepted}
 use Rattle.field64.specs.Sums.{total}
 use Rattle.pine.specs.declared.PineParam.{PineParam}
 use Rattle.pine.specs.Param.{Field}
-use Rattle.pine.specs.Rows.{Below}
-use Rattle.pine.specs.Outcome.{Outcome, outcome}
+use Rattle.rows.specs.Rows.{Below}
+use Rattle.rows.specs.Outcome.{Outcome, outcome}
 use Rattle.vdaf.specs.Aggregates.{emptyOf, accumulateOf}
 
 -- ---- the calls

@@ -19,10 +19,10 @@ use Rattle.pine.specs.declared.PineParam.{PineParam}
 use Rattle.pine.specs.declared.record.Pine.{Pine}
 use Rattle.pine.specs.Param.{Field, Field64, paramAnswer}
 use Rattle.pine.specs.Record.{sqNormBound, sqNormBits, wrTestBound, wrTestBits, bitCheckedLen, encodedInputLen, bytesPerTest, streamLen, pineOf}
-use Rattle.pine.specs.Rows.{rowRule}
+use Rattle.rows.specs.Rows.{rowRule}
 use Rattle.pine.proofs.Limits.{limits, param-accepted}
 use Rattle.pine.proofs.Sizes.{bound-64, norm-64, bound-positive}
-use Rattle.pine.proofs.Lengths.{row-right}
+use Rattle.rows.proofs.Lengths.{row-right}
 use Rattle.flp.specs.Tests.{testsOf}
 use Rattle.flp.specs.Encode.{elements, sqNorm, resultsOf, measurementOf, coordinatesRule, gradientLenRule, sqNormRule, inRange, rangeRule, encodeOutcome, encodeRules, encodeAnswer, encodeOf}
 use Rattle.measurement.specs.Parts.{Usable, checkedOf}

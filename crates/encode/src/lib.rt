@@ -26,9 +26,9 @@ fn check_encode(
         return inputs;
     }
     let pine = Pine::new(param);
-    let row_2 = pine::rows::check_len(2, stream.len(), pine.stream_len());
-    let row_3 = pine::rows::check_len(3, measurement.len(), pine.encoded_input_len);
-    let row_4 = pine::rows::check_len(4, results.len(), pine.num_wr_tests);
+    let row_2 = rows::check_len(2, stream.len(), pine.stream_len());
+    let row_3 = rows::check_len(3, measurement.len(), pine.encoded_input_len);
+    let row_4 = rows::check_len(4, results.len(), pine.num_wr_tests);
     let coordinates = steps::check_coordinates(gradient);
     let gradient_len = steps::check_gradient_len(gradient.len(), pine.dimension);
     row_2.or(row_3.or(row_4.or(coordinates.or(gradient_len))))

@@ -9,7 +9,7 @@ use lib.Seq.{drop-drop}
 use lib.Pow.{shr-shr}
 use Rattle.field64.specs.Sums.{evaluate, number}
 use Rattle.field64.proofs.Modular.{modular}
-use Rattle.pine.specs.Rows.{Below}
+use Rattle.rows.specs.Rows.{Below}
 use Rattle.flp.specs.Bits.{bits, groups}
 
 pub length-bits : (k v : ℕ) → length (bits k v) ≡ k

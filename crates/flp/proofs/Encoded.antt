@@ -11,11 +11,11 @@ use Rattle.field64.specs.Sums.{number}
 use Rattle.field64.proofs.Modular.{sub-is}
 use Rattle.field64.proofs.Sums.{evaluate-below}
 use Rattle.pine.specs.declared.PineParam.{PineParam}
-use Rattle.pine.specs.Rows.{Below}
+use Rattle.rows.specs.Rows.{Below}
 use Rattle.pine.specs.Record.{sqNormBound, sqNormBits, wrTestBound, wrTestBits, bitCheckedLen, encodedInputLen, inputLen, bytesPerTest, gadgetCalls, gadgetCallsNorm}
 use Rattle.pine.proofs.Digits.{digits-above}
 use Rattle.pine.proofs.Sizes.{bound-positive, bits-power}
-use Rattle.pine.proofs.Elements.{below-append, below-more}
+use Rattle.rows.proofs.Elements.{below-append, below-more}
 use Rattle.flp.specs.Bits.{bits, groups}
 use Rattle.flp.specs.Encode.{sqNorm, testBits, resultsOf, measurementOf, rangeRule}
 use Rattle.flp.specs.Circuits.{gradientPart, checkedPart, resultsPart, testParts, normV, normU, validValue, validCalls, validEqualValue, validEqualCalls}

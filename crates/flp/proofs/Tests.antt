@@ -10,8 +10,8 @@ use lib.Dec.{eqb}
 use Rattle.field64.specs.Field.{addMod, subMod}
 use Rattle.field64.proofs.Modular.{modular, add-both, sub-add, sub-is}
 use Rattle.field64.proofs.Sums.{evaluate-below}
-use Rattle.pine.specs.Rows.{Below, addRows}
-use Rattle.pine.proofs.Added.{evaluate-add}
+use Rattle.rows.specs.Rows.{Below, addRows}
+use Rattle.rows.proofs.Added.{evaluate-add}
 use Rattle.flp.specs.Bits.{groups}
 use Rattle.flp.specs.Tests.{pairs, weighed, weigh, testOf, testsOf}
 use Rattle.flp.proofs.Bits.{length-groups}

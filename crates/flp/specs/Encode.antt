@@ -13,7 +13,7 @@ use Rattle.doubles.specs.Doubles.{coordinateRule, element}
 use Rattle.pine.specs.declared.PineParam.{PineParam}
 use Rattle.pine.specs.Param.{Field, paramAnswer}
 use Rattle.pine.specs.Record.{sqNormBound, sqNormBits, wrTestBound, wrTestBits, encodedInputLen, bytesPerTest, streamLen}
-use Rattle.pine.specs.Rows.{rowRule}
+use Rattle.rows.specs.Rows.{rowRule}
 use Rattle.flp.specs.Bits.{bits}
 use Rattle.flp.specs.Tests.{testsOf}
 

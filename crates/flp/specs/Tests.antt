@@ -11,8 +11,8 @@ use Rattle.field64.specs.Sums.{total}
 use Rattle.pine.specs.declared.PineParam.{PineParam}
 use Rattle.pine.specs.Param.{Field, paramAnswer}
 use Rattle.pine.specs.Record.{bytesPerTest, streamLen}
-use Rattle.pine.specs.Rows.{rowRule, elementsRule}
-use Rattle.pine.specs.Outcome.{Outcome, finish}
+use Rattle.rows.specs.Rows.{rowRule, elementsRule}
+use Rattle.rows.specs.Outcome.{Outcome, finish}
 use Rattle.flp.specs.Bits.{groups}
 
 -- the pairs of bits of bytes: of each, bits 0 and 1, bits 2 and 3, bits 4 and 5, bits 6 and 7

@@ -7,7 +7,7 @@ ghost use Prim.Native.Nat.{_+_, _-_, _*_, _≤_, _<_};
 ghost use lib.ListN.{length};
 ghost use Rattle.field64.specs.Field.{p64, subMod};
 ghost use Rattle.doubles.specs.Doubles.{power};
-ghost use Rattle.pine.specs.Rows.{Below};
+ghost use Rattle.rows.specs.Rows.{Below};
 ghost use Rattle.flp.specs.Bits.{bits};
 ghost use Rattle.flp.specs.Encode.{elements, success, testBits};
 ghost use Rattle.measurement.specs.Parts.{Usable, checkedOf};

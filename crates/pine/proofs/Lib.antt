@@ -1,9 +1,4 @@
--- Laws of the record (`Digits`: binary digits; `Limits`: what accepted inputs have met; `Sizes`: what follows for the record) and of rows (`Lengths`: rule 7; `Elements`: rule 12; `Added`: rows added;
--- `Walk`: loops in place).
+-- Laws of the record: `Digits` of binary digits, `Limits` of what accepted inputs have met, `Sizes` of what follows for the record.
 pub mod Digits
 pub mod Limits
 pub mod Sizes
-pub mod Lengths
-pub mod Elements
-pub mod Added
-pub mod Walk

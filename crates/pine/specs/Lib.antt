@@ -1,4 +1,2 @@
 pub mod Param
 pub mod Record
-pub mod Rows
-pub mod Outcome

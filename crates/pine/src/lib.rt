@@ -1,12 +1,11 @@
 // The parameters of PINE: the seven inputs, the rules on them, and the record derived from them
-// (pine/mod.rs of the Rust). The public calls are check_param and derive; the modules record and rows
-// serve the crates above.
+// (pine/mod.rs of the Rust). The public calls are check_param and derive; the module record serves
+// the crates above.
 use record::Lengths;
 use record::Pine;
 use rules::Answer;
 
 pub mod record;
-pub mod rows;
 
 ghost use mathlib.Core.Path.{_≡_};
 ghost use Rattle.rules.specs.Rules.{refuse, outOf};

@@ -14,8 +14,8 @@ use Rattle.rules.proofs.Chain.{passed}
 use Rattle.pine.specs.declared.PineParam.{PineParam}
 use Rattle.pine.specs.Param.{Field64}
 use Rattle.pine.specs.Record.{bitCheckedLen, encodedInputLen, inputLen}
-use Rattle.pine.specs.Outcome.{Outcome, outcome, finish}
-use Rattle.pine.proofs.Lengths.{row-right}
+use Rattle.rows.specs.Outcome.{Outcome, outcome, finish}
+use Rattle.rows.proofs.Lengths.{row-right}
 use Rattle.flp.specs.Circuits.{gradientPart, checkedPart, resultsPart, partRules, partOf, gradientPartOf, checkedPartOf, resultsPartOf}
 use Rattle.pine_c.specs.declared.Part.{Part}
 use Rattle.pine_c.specs.Places.{partAt, named}

@@ -5,7 +5,7 @@ use mathlib.Core.List.{List}
 use lib.ListN.{take, drop}
 use lib.Dec.{eqb}
 use Rattle.rules.specs.declared.Answer.{Answer}
-use Rattle.pine.specs.Outcome.{Outcome, outcome}
+use Rattle.rows.specs.Outcome.{Outcome, outcome}
 use Rattle.pine_c.specs.declared.Part.{Part}
 
 -- beside a refusal, both numbers are 0

@@ -13,7 +13,7 @@ ghost use Rattle.field64.specs.Field.{p64};
 ghost use Rattle.doubles.specs.Doubles.{coordinateOf, decodedOf};
 ghost use Rattle.pine.specs.Param.{Field64, paramAnswer};
 ghost use Rattle.pine.specs.Record.{deriveOf, bitCheckedLen, encodedInputLen};
-ghost use Rattle.pine.specs.Outcome.{outcome};
+ghost use Rattle.rows.specs.Outcome.{outcome};
 ghost use Rattle.flp.specs.Tests.{runTestsOf};
 ghost use Rattle.flp.specs.Encode.{encodeOutcome, encodeOf};
 ghost use Rattle.flp.specs.Circuits.{validOf, validEqualOf, partRules, gradientPartOf, checkedPartOf, resultsPartOf};

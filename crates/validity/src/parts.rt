@@ -6,7 +6,7 @@ use rules::Answer;
 ghost use mathlib.Core.Path.{_≡_};
 ghost use Rattle.rules.specs.Rules.{answer, inOrder};
 ghost use Rattle.pine.specs.Param.{Field64};
-ghost use Rattle.pine.specs.Outcome.{outcome};
+ghost use Rattle.rows.specs.Outcome.{outcome};
 ghost use Rattle.flp.specs.Circuits.{partRules, gradientPartOf, checkedPartOf, resultsPartOf};
 
 // The rules of each part.
@@ -18,8 +18,8 @@ fn check_part(param: PineParam, full: &[u64]) -> Answer
         return inputs;
     }
     let pine = Pine::new(param);
-    let row_1 = pine::rows::check_len(1, full.len(), pine.input_len());
-    row_1.or(pine::rows::check_elements(full, 0))
+    let row_1 = rows::check_len(1, full.len(), pine.input_len());
+    row_1.or(rows::check_elements(full, 0))
 }
 
 // The gradient.

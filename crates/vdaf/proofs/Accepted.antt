@@ -8,11 +8,11 @@ use Rattle.rules.specs.Rules.{accepted}
 use Rattle.rules.proofs.Chain.{passed}
 use Rattle.pine.specs.declared.PineParam.{PineParam}
 use Rattle.pine.specs.Param.{Field, paramAnswer}
-use Rattle.pine.specs.Rows.{rowRule, elementsRule, Below, addRows}
-use Rattle.pine.specs.Outcome.{outcome}
+use Rattle.rows.specs.Rows.{rowRule, elementsRule, Below, addRows}
+use Rattle.rows.specs.Outcome.{outcome}
 use Rattle.pine.proofs.Limits.{param-accepted}
-use Rattle.pine.proofs.Lengths.{right-row, row-right}
-use Rattle.pine.proofs.Elements.{below-append, below-parts, elements-joined, right-elements, elements-below}
+use Rattle.rows.proofs.Lengths.{right-row, row-right}
+use Rattle.rows.proofs.Elements.{below-append, below-parts, elements-joined, right-elements, elements-below}
 use Rattle.vdaf.specs.Aggregates.{emptyRules, emptyAnswer, emptyOf, accumulateRules, accumulateAnswer, accumulateOf, unshardOutcome, decodedSums, unshardRules, unshardAnswer, unshardOf}
 
 -- accepted inputs, and two rows of d field numbers

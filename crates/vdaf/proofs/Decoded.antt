@@ -7,8 +7,8 @@ use lib.ListN.{length, getD, length-map}
 use lib.Ieee.{Float}
 use Rattle.field64.specs.Field.{addMod}
 use Rattle.doubles.specs.Doubles.{decoded}
-use Rattle.pine.specs.Rows.{addRows}
-use Rattle.pine.proofs.Added.{length-addRows, getD-addRows}
+use Rattle.rows.specs.Rows.{addRows}
+use Rattle.rows.proofs.Added.{length-addRows, getD-addRows}
 use Rattle.vdaf.specs.Aggregates.{decodedSums}
 
 -- what stands at i in a mapped list, whatever `getD` gives beyond the ends

@@ -8,8 +8,8 @@ use borrow.Author.Tests.{eq-eqb, ne-eqb}
 use Rattle.rules.specs.declared.Answer.{Answer}
 use Rattle.pine.specs.declared.PineParam.{PineParam}
 use Rattle.pine.specs.Param.{Field}
-use Rattle.pine.specs.Rows.{addRows}
-use Rattle.pine.specs.Outcome.{outcome}
+use Rattle.rows.specs.Rows.{addRows}
+use Rattle.rows.specs.Outcome.{outcome}
 use Rattle.vdaf.specs.Aggregates.{emptyAnswer, emptyOf, accumulateAnswer, accumulateOf, unshardOutcome, decodedSums, unshardAnswer, unshardOf}
 use Rattle.vdaf.proofs.Accepted.{TwoRows, emptied, added, unsharded}
 

@@ -9,7 +9,7 @@ use Rattle.field64.specs.Field.{p64}
 use Rattle.doubles.specs.Doubles.{plusZero, centred, decoded}
 use Rattle.pine.specs.declared.PineParam.{PineParam}
 use Rattle.pine.specs.Param.{Field64, paramRules, paramAnswer}
-use Rattle.pine.specs.Outcome.{Outcome, outcome}
+use Rattle.rows.specs.Outcome.{Outcome, outcome}
 use Rattle.vdaf.specs.Aggregates.{emptyAnswer, emptyOf, accumulateAnswer, accumulateOf, UnshardOutcome, unshardOutcome, decodedSums, unshardAnswer, unshardOf}
 
 -- the inputs with this dimension and these fractional bits; the others are the least

@@ -10,9 +10,9 @@ use Rattle.rules.specs.Rules.{accepted, first, inOrder}
 use Rattle.rules.proofs.Chain.{refuse-last, first-assoc, first-passed}
 use Rattle.pine.specs.declared.PineParam.{PineParam}
 use Rattle.pine.specs.Param.{Field, paramAnswer}
-use Rattle.pine.specs.Rows.{rowRule, firstBad, elementsFrom, elementsRule}
-use Rattle.pine.proofs.Lengths.{row-last}
-use Rattle.pine.proofs.Elements.{elements-joined}
+use Rattle.rows.specs.Rows.{rowRule, firstBad, elementsFrom, elementsRule}
+use Rattle.rows.proofs.Lengths.{row-last}
+use Rattle.rows.proofs.Elements.{elements-joined}
 use Rattle.vdaf.specs.Aggregates.{emptyAnswer, accumulateAnswer, unshardAnswer}
 
 -- an answer so far, and rule 12 of two rows, each searched by itself

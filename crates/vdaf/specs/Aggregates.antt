@@ -10,8 +10,8 @@ use Rattle.rules.specs.Rules.{inOrder}
 use Rattle.doubles.specs.Doubles.{decoded}
 use Rattle.pine.specs.declared.PineParam.{PineParam}
 use Rattle.pine.specs.Param.{Field, paramAnswer}
-use Rattle.pine.specs.Rows.{rowRule, elementsRule, addRows}
-use Rattle.pine.specs.Outcome.{Outcome, finish}
+use Rattle.rows.specs.Rows.{rowRule, elementsRule, addRows}
+use Rattle.rows.specs.Outcome.{Outcome, finish}
 
 module _ (F : Field) (i : PineParam) where
   -- ---- the aggregate of no shares

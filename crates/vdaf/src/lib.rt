@@ -2,7 +2,6 @@
 // an aggregate, and reading two aggregates back as doubles. Each public call takes any arguments; a
 // function named check_* decides its answer and writes nothing.
 use pine::PineParam;
-use pine::rows;
 use rules::Answer;
 ghost use mathlib.Core.Path.{_≡_};
 ghost use mathlib.Core.List.{_++_};
@@ -11,8 +10,8 @@ ghost use Rattle.rules.specs.Rules.{first};
 ghost use Rattle.field64.specs.Field.{p64};
 ghost use Rattle.doubles.specs.Doubles.{power};
 ghost use Rattle.pine.specs.Param.{Field64, paramAnswer};
-ghost use Rattle.pine.specs.Rows.{rowRule, elementsRule, Below, addRows};
-ghost use Rattle.pine.specs.Outcome.{outcome};
+ghost use Rattle.rows.specs.Rows.{rowRule, elementsRule, Below, addRows};
+ghost use Rattle.rows.specs.Outcome.{outcome};
 ghost use Rattle.vdaf.specs.Aggregates.{emptyAnswer, emptyOf, accumulateAnswer, accumulateOf, unshardOutcome, decodedSums, unshardAnswer, unshardOf};
 
 // Rules 1 to 7 of two rows of these lengths.

@@ -13,11 +13,11 @@ use Rattle.rules.proofs.Chain.{passed, refuse-last}
 use Rattle.pine.specs.declared.PineParam.{PineParam}
 use Rattle.pine.specs.Param.{Field, paramAnswer}
 use Rattle.pine.specs.Record.{bytesPerTest, streamLen}
-use Rattle.pine.specs.Rows.{firstBad, rowRule, elementsRule, Below}
-use Rattle.pine.specs.Outcome.{outcome}
+use Rattle.rows.specs.Rows.{firstBad, rowRule, elementsRule, Below}
+use Rattle.rows.specs.Outcome.{outcome}
 use Rattle.pine.proofs.Limits.{limits}
-use Rattle.pine.proofs.Lengths.{row-right}
-use Rattle.pine.proofs.Elements.{elements-below}
+use Rattle.rows.proofs.Lengths.{row-right}
+use Rattle.rows.proofs.Elements.{elements-below}
 use Rattle.flp.specs.Tests.{testsOf, runTestsRules, runTestsOf}
 
 module _ (F : Field) (i : PineParam) (xs s d : List ℕ) where

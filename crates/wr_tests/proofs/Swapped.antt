@@ -11,7 +11,7 @@ use lib.Dec.{eqb}
 use Rattle.field64.specs.Field.{addMod, subMod}
 use Rattle.field64.specs.Sums.{evaluate}
 use Rattle.field64.proofs.Modular.{modular}
-use Rattle.pine.specs.Rows.{Below}
+use Rattle.rows.specs.Rows.{Below}
 use Rattle.flp.specs.Bits.{groups}
 use Rattle.flp.specs.Tests.{pairs, weighed, weigh, testOf, testsOf}
 use Rattle.wr_tests.specs.Columns.{column, addColumn}

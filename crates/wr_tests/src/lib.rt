@@ -8,7 +8,7 @@ pub mod columns;
 ghost use mathlib.Core.Path.{_≡_};
 ghost use Rattle.rules.specs.Rules.{inOrder};
 ghost use Rattle.pine.specs.Param.{Field64};
-ghost use Rattle.pine.specs.Outcome.{outcome};
+ghost use Rattle.rows.specs.Outcome.{outcome};
 ghost use Rattle.flp.specs.Tests.{runTestsRules, runTestsOf};
 
 // Rules 1 to 7 and 12, of the wraparound tests.
@@ -20,10 +20,10 @@ fn check_run_wr_tests(param: PineParam, gradient: &[u64], stream: &[u8], results
         return inputs;
     }
     let pine = Pine::new(param);
-    let row_1 = pine::rows::check_len(1, gradient.len(), pine.dimension);
-    let row_2 = pine::rows::check_len(2, stream.len(), pine.stream_len());
-    let row_3 = pine::rows::check_len(3, results.len(), pine.num_wr_tests);
-    let elements = pine::rows::check_elements(gradient, 0);
+    let row_1 = rows::check_len(1, gradient.len(), pine.dimension);
+    let row_2 = rows::check_len(2, stream.len(), pine.stream_len());
+    let row_3 = rows::check_len(3, results.len(), pine.num_wr_tests);
+    let elements = rows::check_elements(gradient, 0);
     row_1.or(row_2.or(row_3.or(elements)))
 }
 

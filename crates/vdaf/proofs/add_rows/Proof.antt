@@ -6,10 +6,10 @@ use native.Mathlib.Omega.{arith}
 use borrow.Author.Needs.{needs}
 use lib.ListN.{length, getD, set}
 use Rattle.field64.specs.Field.{p64, addMod}
-use Rattle.pine.specs.Rows.{Below, addRows}
-use Rattle.pine.proofs.Elements.{below-at}
-use Rattle.pine.proofs.Added.{length-addRows, getD-addRows}
-use Rattle.pine.proofs.Walk.{walked-at, walked-end, Walking, walking-next}
+use Rattle.rows.specs.Rows.{Below, addRows}
+use Rattle.rows.proofs.Elements.{below-at}
+use Rattle.rows.proofs.Added.{length-addRows, getD-addRows}
+use Rattle.rows.proofs.Walk.{walked-at, walked-end, Walking, walking-next}
 use Rattle.vdaf.proofs.add_rows.Statement.{statement}
 use Rattle.vdaf.proofs.add_rows.Tie as tie
 

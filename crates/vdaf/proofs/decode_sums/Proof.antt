@@ -8,8 +8,8 @@ use lib.ListN.{length, getD, set}
 use lib.Ieee.{Float}
 use Rattle.field64.specs.Field.{p64, addMod}
 use Rattle.doubles.specs.Doubles.{plusZero, decoded}
-use Rattle.pine.proofs.Elements.{below-at}
-use Rattle.pine.proofs.Walk.{walked-end, Walking, walking-next}
+use Rattle.rows.proofs.Elements.{below-at}
+use Rattle.rows.proofs.Walk.{walked-end, Walking, walking-next}
 use Rattle.vdaf.specs.Aggregates.{decodedSums}
 use Rattle.vdaf.proofs.Decoded.{length-decodedSums, getD-decodedSums}
 use Rattle.vdaf.proofs.decode_sums.Statement.{statement}

@@ -4,7 +4,7 @@ use lib.ListN.{length}
 use Rattle.rules.specs.declared.Answer.{Answer}
 use Rattle.pine.specs.Param.{Field64, paramAnswer}
 use Rattle.pine.proofs.Limits.{param-accepted}
-use Rattle.pine.specs.Rows.{rowRule}
+use Rattle.rows.specs.Rows.{rowRule}
 use Rattle.validity.proofs.Verdicts.{input-is, part-stopped, part-answer}
 use native.Mathlib.Omega.{arith}
 use Rattle.validity.proofs.parts.check_part.Statement.{statement}

@@ -3,7 +3,7 @@ use mathlib.Core.Path.{refl, sym}
 use lib.ListN.{List·getD-eq-default}
 use borrow.Author.Needs.{needs}
 use Rattle.field64.specs.Field.{p64}
-use Rattle.pine.proofs.Elements.{below-at}
+use Rattle.rows.proofs.Elements.{below-at}
 use Rattle.wr_tests.proofs.columns.at.Statement.{statement}
 use Rattle.wr_tests.proofs.columns.at.Tie as tie
 

@@ -6,9 +6,9 @@ use native.Mathlib.Omega.{arith}
 use borrow.Author.Needs.{needs}
 use lib.ListN.{length, getD, set, length-set}
 use Rattle.field64.specs.Field.{p64}
-use Rattle.pine.proofs.Walk.{walked, walked-at, walked-next, walked-end}
-use Rattle.pine.specs.Rows.{Below}
-use Rattle.pine.proofs.Elements.{below-at}
+use Rattle.rows.proofs.Walk.{walked, walked-at, walked-next, walked-end}
+use Rattle.rows.specs.Rows.{Below}
+use Rattle.rows.proofs.Elements.{below-at}
 use Rattle.wr_tests.specs.Columns.{lessOf, lessColumn}
 use Rattle.wr_tests.proofs.Tables.{byte-inside, length-less, getD-less}
 use Rattle.wr_tests.proofs.columns.less_column.Statement.{statement}

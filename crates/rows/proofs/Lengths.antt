@@ -6,7 +6,7 @@ use lib.Dec.{eqb}
 use borrow.Author.Tests.{eq-eqb, eqb-true}
 use Rattle.rules.specs.Rules.{answer, accepted, first}
 use Rattle.rules.proofs.Chain.{so}
-use Rattle.pine.specs.Rows.{rowRule}
+use Rattle.rows.specs.Rows.{rowRule}
 
 pub right-row : (k n m : ℕ) → n ≡ m → rowRule k n m ≡ accepted
 right-row k n m e = rw (eq-eqb n m e)

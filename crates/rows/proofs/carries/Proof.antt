@@ -1,14 +1,14 @@
--- `pine::rows::carries` meets its contract. The invariant: with no carry so far, the elements so far are below p; in a row below p there is none so far. Assumes nothing.
+-- `rows::carries` meets its contract. The invariant: with no carry so far, the elements so far are below p; in a row below p there is none so far. Assumes nothing.
 use Prim.Native.Nat.{ℕ, _-_, _^_, _≤_, _<_}
 use native.Mathlib.Omega.{arith}
 use borrow.Author.Needs.{needs}
 use lib.ListN.{length, getD}
 use lib.Bits.{bitAnd, or-lt}
 use Rattle.field64.specs.Field.{p64}
-use Rattle.pine.specs.Rows.{Below}
-use Rattle.pine.proofs.Elements.{below-all, below-at, below-next, no-carry, no-carry-below, or-left, or-right}
-use Rattle.pine.proofs.rows.carries.Statement.{statement}
-use Rattle.pine.proofs.rows.carries.Tie as tie
+use Rattle.rows.specs.Rows.{Below}
+use Rattle.rows.proofs.Elements.{below-all, below-at, below-next, no-carry, no-carry-below, or-left, or-right}
+use Rattle.rows.proofs.carries.Statement.{statement}
+use Rattle.rows.proofs.carries.Tie as tie
 
 abbrev Inv-loop : tie.InvT-loop
 Inv-loop row seen₀ i₀ seen i =

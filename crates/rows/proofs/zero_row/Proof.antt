@@ -1,12 +1,12 @@
--- `pine::rows::zero_row` meets its contract. Assumes nothing.
+-- `rows::zero_row` meets its contract. Assumes nothing.
 use mathlib.Core.Path.{refl, sym, _∙_}
 use Prim.Native.Nat.{ℕ, _-_}
 use native.Mathlib.Omega.{arith}
 use borrow.Author.Needs.{needs}
 use lib.ListN.{length, replicate, length-replicate, getD-replicate}
-use Rattle.pine.proofs.Walk.{Walking, walking-next, walked-end}
-use Rattle.pine.proofs.rows.zero_row.Statement.{statement}
-use Rattle.pine.proofs.rows.zero_row.Tie as tie
+use Rattle.rows.proofs.Walk.{Walking, walking-next, walked-end}
+use Rattle.rows.proofs.zero_row.Statement.{statement}
+use Rattle.rows.proofs.zero_row.Tie as tie
 
 -- the invariant: the row is zeros up to i, and as it was from there
 abbrev Inv-loop : tie.InvT-loop

@@ -1,8 +1,8 @@
--- `pine::rows::check_len` meets its contract. Assumes nothing.
+-- `rows::check_len` meets its contract. Assumes nothing.
 use borrow.Author.Needs.{needs}
 use borrow.Author.Tests.{eq-eqb, ne-eqb}
-use Rattle.pine.proofs.rows.check_len.Statement.{statement}
-use Rattle.pine.proofs.rows.check_len.Tie as tie
+use Rattle.rows.proofs.check_len.Statement.{statement}
+use Rattle.rows.proofs.check_len.Tie as tie
 
 accepted-requires : tie.Need-accepted-requires
 accepted-requires c κs = search needs

@@ -14,7 +14,7 @@ use borrow.Author.Tests.{lt-ltb, le-ltb, ltb-true, ltb-false}
 use Rattle.rules.specs.Rules.{accepted, first}
 use Rattle.rules.proofs.Chain.{not-so}
 use Rattle.field64.specs.Field.{p64}
-use Rattle.pine.specs.Rows.{firstBad, elementsFrom, elementsRule, Below}
+use Rattle.rows.specs.Rows.{firstBad, elementsFrom, elementsRule, Below}
 
 -- ---- rows whose elements are below n
 

@@ -5,7 +5,7 @@ ghost use mathlib.Core.Path.{_≡_};
 ghost use Prim.Native.Nat.{_+_, _<_, _^_};
 ghost use lib.ListN.{length, replicate};
 ghost use Rattle.field64.specs.Field.{p64};
-ghost use Rattle.pine.specs.Rows.{rowRule, firstBad, elementsFrom, Below};
+ghost use Rattle.rows.specs.Rows.{rowRule, firstBad, elementsFrom, Below};
 
 // Rule 7, of the row at a place.
 pub fn check_len(place: u64, len: usize, expected: u64) -> Answer

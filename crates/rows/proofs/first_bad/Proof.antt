@@ -1,10 +1,10 @@
--- `pine::rows::first_bad` meets its contract. Assumes nothing.
+-- `rows::first_bad` meets its contract. Assumes nothing.
 use borrow.Author.Needs.{needs}
 use mathlib.Core.Path.{sym}
 use Rattle.field64.specs.Field.{p64}
-use Rattle.pine.proofs.Elements.{none-bad}
-use Rattle.pine.proofs.rows.first_bad.Statement.{statement}
-use Rattle.pine.proofs.rows.first_bad.Tie as tie
+use Rattle.rows.proofs.Elements.{none-bad}
+use Rattle.rows.proofs.first_bad.Statement.{statement}
+use Rattle.rows.proofs.first_bad.Tie as tie
 
 carries-requires : tie.Need-carries-requires
 carries-requires c κs = search needs

@@ -8,7 +8,7 @@ use lib.ListN.{length, getD, take, drop}
 use Rattle.field64.specs.Field.{addMod}
 use Rattle.field64.specs.Sums.{evaluate}
 use Rattle.field64.proofs.Modular.{modular}
-use Rattle.pine.specs.Rows.{Below, addRows}
+use Rattle.rows.specs.Rows.{Below, addRows}
 
 module _ (p : ℕ) where
   pub length-addRows : (xs ys : List ℕ) → length xs ≡ length ys → length (addRows p xs ys) ≡ length xs

@@ -1,8 +1,8 @@
--- `pine::rows::check_elements` meets its contract. Assumes nothing.
+-- `rows::check_elements` meets its contract. Assumes nothing.
 use borrow.Author.Needs.{needs}
 use borrow.Author.Tests.{lt-ltb, le-ltb}
-use Rattle.pine.proofs.rows.check_elements.Statement.{statement}
-use Rattle.pine.proofs.rows.check_elements.Tie as tie
+use Rattle.rows.proofs.check_elements.Statement.{statement}
+use Rattle.rows.proofs.check_elements.Tie as tie
 
 first-bad-requires : tie.Need-first-bad-requires
 first-bad-requires c κs = search needs
