@@ -1,3 +1,2 @@
--- What the proofs of the functions cite: `Coordinates` of the loops over the gradient and the results, `Encoding` of the cases of the call.
-mod Coordinates
+-- What the proofs of the functions cite: `Encoding` of the cases of the call.
 mod Encoding

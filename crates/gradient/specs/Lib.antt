@@ -1,0 +1,2 @@
+-- What the inner functions of encoding give.
+pub mod Squares
