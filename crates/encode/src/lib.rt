@@ -2,7 +2,6 @@
 use pine::PineParam;
 use pine::record::Pine;
 use rules::Answer;
-
 ghost use mathlib.Core.Path.{_≡_};
 ghost use lib.ListN.{length, take};
 ghost use Rattle.rules.specs.Rules.{accepted, inOrder};

@@ -11,8 +11,9 @@ use lib.Seq.{drop-cons}
 use lib.Dec.{ltb, eqb}
 use lib.Bits.{bitAnd, bitOr, and-shr, and-self, and-le-l, and-le-r, or-add-and}
 use borrow.Author.Tests.{lt-ltb, le-ltb, ltb-true, ltb-false}
+use Rattle.rules.specs.declared.Answer.{Answer}
 use Rattle.rules.specs.Rules.{accepted, first}
-use Rattle.rules.proofs.Chain.{not-so}
+use Rattle.rules.proofs.Chain.{not-so, first-passed}
 use Rattle.field64.specs.Field.{p64}
 use Rattle.rows.specs.Rows.{firstBad, elementsFrom, elementsRule, Below}
 
@@ -109,6 +110,10 @@ elements-joined p xs ys = go (ltb (firstBad p xs) (length xs)) (ltb (firstBad p 
     go false false e f =
         let m : length xs + length ys ≤ length xs + firstBad p ys = omega (arith, ltb-false (firstBad p ys) (length ys) f) in
         simp (bad-right p xs ys (ltb-false (firstBad p xs) (length xs) e), length-append, le-ltb (length xs + firstBad p ys) (length xs + length ys) m, e, f)
+
+-- an answer so far, and rule 12 of two rows, each searched by itself
+pub elements-after : (p : ℕ) (xs ys : List ℕ) (s a b r : Answer) → s .number ≡ 0 → a ≡ elementsFrom p 0 xs → b ≡ elementsFrom p (length xs) ys → r ≡ first a b → r ≡ first s (elementsRule p (xs ++ ys))
+elements-after p xs ys s a b r z e f g = g ∙ rw (e, f) (sym (elements-joined p xs ys) ∙ sym (first-passed s (elementsRule p (xs ++ ys)) z))
 
 pub right-elements : (p k : ℕ) (xs : List ℕ) → Below p xs → elementsFrom p k xs ≡ accepted
 right-elements p k xs f = rw (le-ltb (firstBad p xs) (length xs) (omega (arith, none-bad p xs f)))

@@ -7,17 +7,12 @@ use lib.Dec.{ltb}
 use lib.Ieee.{Float}
 use Rattle.rules.specs.declared.Answer.{Answer}
 use Rattle.rules.specs.Rules.{accepted, first, inOrder}
-use Rattle.rules.proofs.Chain.{refuse-last, first-assoc, first-passed}
+use Rattle.rules.proofs.Chain.{refuse-last, first-assoc}
 use Rattle.pine.specs.declared.PineParam.{PineParam}
 use Rattle.pine.specs.Param.{Field, paramAnswer}
-use Rattle.rows.specs.Rows.{rowRule, firstBad, elementsFrom, elementsRule}
+use Rattle.rows.specs.Rows.{rowRule, firstBad, elementsRule}
 use Rattle.rows.proofs.Lengths.{row-last}
-use Rattle.rows.proofs.Elements.{elements-joined}
 use Rattle.vdaf.specs.Aggregates.{emptyAnswer, accumulateAnswer, unshardAnswer}
-
--- an answer so far, and rule 12 of two rows, each searched by itself
-pub elements-after : (p : ℕ) (xs ys : List ℕ) (s a b r : Answer) → s .number ≡ 0 → a ≡ elementsFrom p 0 xs → b ≡ elementsFrom p (length xs) ys → r ≡ first a b → r ≡ first s (elementsRule p (xs ++ ys))
-elements-after p xs ys s a b r z e f g = g ∙ rw (e, f) (sym (elements-joined p xs ys) ∙ sym (first-passed s (elementsRule p (xs ++ ys)) z))
 
 elements-last : (p : ℕ) (xs : List ℕ) → first (elementsRule p xs) accepted ≡ elementsRule p xs
 elements-last p xs = refuse-last (ltb (firstBad p xs) (length xs)) 11 (0 + firstBad p xs)

@@ -4,13 +4,12 @@
 use pine::PineParam;
 use rules::Answer;
 ghost use mathlib.Core.Path.{_≡_};
-ghost use mathlib.Core.List.{_++_};
 ghost use lib.ListN.{length};
 ghost use Rattle.rules.specs.Rules.{first};
 ghost use Rattle.field64.specs.Field.{p64};
 ghost use Rattle.doubles.specs.Doubles.{power};
 ghost use Rattle.pine.specs.Param.{Field64, paramAnswer};
-ghost use Rattle.rows.specs.Rows.{rowRule, elementsRule, Below, addRows};
+ghost use Rattle.rows.specs.Rows.{rowRule, Below};
 ghost use Rattle.rows.specs.Outcome.{outcome};
 ghost use Rattle.vdaf.specs.Aggregates.{emptyAnswer, emptyOf, accumulateAnswer, accumulateOf, unshardOutcome, decodedSums, unshardAnswer, unshardOf};
 
@@ -22,18 +21,6 @@ fn check_lens(param: PineParam, left: usize, right: usize) -> Answer
     let left_len = rows::check_len(1, left, param.dimension);
     let right_len = rows::check_len(2, right, param.dimension);
     inputs.or(left_len.or(right_len))
-}
-
-// The answer so far where it is a refusal, or else rule 12 over two rows joined.
-fn or_elements(so_far: Answer, left: &[u64], right: &[u64]) -> Answer
-    ensures { λ r. ⌜ r ≡ first «so_far» (elementsRule p64 (now (left .entry) ++ now (right .entry))) ⌝ }
-{
-    if so_far.number != 0 {
-        return so_far;
-    }
-    let in_left = rows::check_elements(left, 0);
-    let in_right = rows::check_elements(right, left.len());
-    in_left.or(in_right)
 }
 
 fn check_empty(param: PineParam, row: &[u64]) -> Answer
@@ -48,7 +35,7 @@ fn check_accumulate(param: PineParam, agg: &[u64], share: &[u64]) -> Answer
     ensures { λ r. ⌜ r ≡ accumulateAnswer Field64 param (now (agg .entry)) (now (share .entry)) ⌝ }
 {
     let lens = check_lens(param, agg.len(), share.len());
-    or_elements(lens, agg, share)
+    rows::or_elements(lens, agg, share)
 }
 
 fn check_unshard(param: PineParam, left: &[u64], right: &[u64], decoded: &[f64]) -> Answer
@@ -56,19 +43,7 @@ fn check_unshard(param: PineParam, left: &[u64], right: &[u64], decoded: &[f64])
 {
     let lens = check_lens(param, left.len(), right.len());
     let decoded_len = rows::check_len(3, decoded.len(), param.dimension);
-    or_elements(lens.or(decoded_len), left, right)
-}
-
-// Adds share to agg by element. Rows, or parts of rows, of field numbers.
-fn add_rows(agg: &mut [u64], share: &[u64])
-    requires { ⌜ (length (now agg) ≡ length (now share)) × (Below p64 (now agg) × Below p64 (now share)) ⌝ }
-    ensures { λ _. ⌜ now (agg .exit) ≡ addRows p64 (now (agg .entry)) (now (share .entry)) ⌝ }
-{
-    let mut i = 0;
-    while i < agg.len() {
-        agg[i] = field64::add_by_bits(agg[i], share[i]);
-        i += 1;
-    }
+    rows::or_elements(lens.or(decoded_len), left, right)
 }
 
 // Adds left and right by element, and writes the sums as doubles at the scale 2^frac_bits.
@@ -105,7 +80,7 @@ pub fn accumulate(param: PineParam, agg: &mut [u64], share: &[u64]) -> Answer
     if answer.number != 0 {
         return answer;
     }
-    add_rows(agg, share);
+    rows::add_rows(agg, share);
     answer
 }
 

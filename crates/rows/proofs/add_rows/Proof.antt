@@ -1,4 +1,4 @@
--- `vdaf::add_rows` meets its contract. Assumes nothing.
+-- `rows::add_rows` meets its contract. Assumes nothing.
 use mathlib.Core.Path.{_≡_, refl, sym, ap, _∙_}
 use mathlib.Core.List.{List}
 use Prim.Native.Nat.{ℕ, _+_, _-_, _<_}
@@ -6,12 +6,12 @@ use native.Mathlib.Omega.{arith}
 use borrow.Author.Needs.{needs}
 use lib.ListN.{length, getD, set}
 use Rattle.field64.specs.Field.{p64, addMod}
 use Rattle.rows.specs.Rows.{Below, addRows}
 use Rattle.rows.proofs.Elements.{below-at}
 use Rattle.rows.proofs.Added.{length-addRows, getD-addRows}
 use Rattle.rows.proofs.Walk.{walked-at, walked-end, Walking, walking-next}
-use Rattle.vdaf.proofs.add_rows.Statement.{statement}
-use Rattle.vdaf.proofs.add_rows.Tie as tie
+use Rattle.rows.proofs.add_rows.Statement.{statement}
+use Rattle.rows.proofs.add_rows.Tie as tie
 
 -- the invariant: the row is the sums up to i, and as it was from there
 abbrev Inv : (d s a : List ℕ) (i : ℕ) → Type 0

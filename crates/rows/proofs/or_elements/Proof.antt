@@ -1,11 +1,11 @@
--- `vdaf::or_elements` meets its contract. Assumes nothing.
+-- `rows::or_elements` meets its contract. Assumes nothing.
 use mathlib.Core.Path.{sym}
 use Rattle.field64.specs.Field.{p64}
 use Rattle.rules.proofs.Chain.{first-refused}
-use Rattle.vdaf.proofs.Verdicts.{elements-after}
+use Rattle.rows.proofs.Elements.{elements-after}
 use native.Mathlib.Omega.{arith}
-use Rattle.vdaf.proofs.or_elements.Statement.{statement}
-use Rattle.vdaf.proofs.or_elements.Tie as tie
+use Rattle.rows.proofs.or_elements.Statement.{statement}
+use Rattle.rows.proofs.or_elements.Tie as tie
 
 returns : tie.Need-returns
 returns c = sym (first-refused _ _ (c .if1 .taken))
