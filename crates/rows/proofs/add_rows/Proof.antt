@@ -40,16 +40,16 @@ loop-holds : tie.Need-loop-holds Inv-loop μ-loop
 loop-holds c = (search needs, refl, refl)
 
 mul-add-by-bits : tie.Need-mul-add-by-bits Inv-loop μ-loop
-mul-add-by-bits c = omega arith
+mul-add-by-bits c = search needs
 
 slice-read-add-by-bits : tie.Need-slice-read-add-by-bits Inv-loop μ-loop
-slice-read-add-by-bits c = omega arith
+slice-read-add-by-bits c = search needs
 
 mul-add-by-bits-2 : tie.Need-mul-add-by-bits-2 Inv-loop μ-loop
-mul-add-by-bits-2 c = omega arith
+mul-add-by-bits-2 c = search needs
 
 shared-slice-read-add-by-bits : tie.Need-shared-slice-read-add-by-bits Inv-loop μ-loop
-shared-slice-read-add-by-bits c = omega arith
+shared-slice-read-add-by-bits c = search needs
 
 add-by-bits-requires : tie.Need-add-by-bits-requires Inv-loop μ-loop
 add-by-bits-requires c κs =
@@ -58,16 +58,16 @@ add-by-bits-requires c κs =
     reads-below (s .args .agg .now) (s .args .share .now) (l .loop .agg) (l .loop .i) (s .pre) (l .loop .inv) (omega arith)
 
 mul-agg : tie.Need-mul-agg Inv-loop μ-loop
-mul-agg c = omega arith
+mul-agg c = search needs
 
 slice-write-agg : tie.Need-slice-write-agg Inv-loop μ-loop
-slice-write-agg c = omega arith
+slice-write-agg c = search needs
 
 add-i : tie.Need-add-i Inv-loop μ-loop
-add-i c = omega arith
+add-i c = search needs
 
 loop-less : tie.Need-loop-less Inv-loop μ-loop
-loop-less c = omega arith
+loop-less c = search needs
 
 loop-again : tie.Need-loop-again Inv-loop μ-loop
 loop-again c =

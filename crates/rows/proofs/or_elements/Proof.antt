@@ -11,13 +11,13 @@ returns : tie.Need-returns
 returns c = sym (first-refused _ _ (c .if1 .taken))
 
 check-elements-requires : tie.Need-check-elements-requires
-check-elements-requires c κs = omega arith
+check-elements-requires c κs = search needs
 
 check-elements-requires-2 : tie.Need-check-elements-requires-2
-check-elements-requires-2 c κs = omega arith
+check-elements-requires-2 c κs = search needs
 
 or-requires : tie.Need-or-requires
-or-requires c κs = omega arith
+or-requires c κs = search needs
 
 returns-2 : tie.Need-returns-2
 returns-2 c =

@@ -2,15 +2,15 @@
 use mathlib.Core.Path.{sym, _∙_}
 use Rattle.pine.specs.Param.{Field64}
 use Rattle.vdaf.proofs.Effects.{accumulate-refused, accumulate-met, accumulate-done}
-use native.Mathlib.Omega.{arith}
+use borrow.Author.Needs.{needs}
 use Rattle.vdaf.proofs.accumulate.Statement.{statement}
 use Rattle.vdaf.proofs.accumulate.Tie as tie
 
 check-accumulate-requires : tie.Need-check-accumulate-requires
-check-accumulate-requires c κs = omega arith
+check-accumulate-requires c κs = search needs
 
 same-length : tie.Need-same-length
-same-length c = omega arith
+same-length c = search needs
 
 returns : tie.Need-returns
 returns c = accumulate-refused Field64 _ _ _ _ (c .before .before .check-accumulate .ensures) (c .if1 .taken)
@@ -22,7 +22,7 @@ add-rows-requires c κs =
     (t .left-long ∙ sym (t .right-long), (t .left-below, t .right-below))
 
 same-length-2 : tie.Need-same-length-2
-same-length-2 c = omega arith
+same-length-2 c = search needs
 
 returns-2 : tie.Need-returns-2
 returns-2 c =

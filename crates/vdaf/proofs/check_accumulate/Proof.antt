@@ -1,15 +1,15 @@
 -- `vdaf::check_accumulate` meets its contract. Assumes nothing.
 use Rattle.pine.specs.Param.{Field64}
 use Rattle.vdaf.proofs.Verdicts.{accumulate-verdict}
-use native.Mathlib.Omega.{arith}
+use borrow.Author.Needs.{needs}
 use Rattle.vdaf.proofs.check_accumulate.Statement.{statement}
 use Rattle.vdaf.proofs.check_accumulate.Tie as tie
 
 check-lens-requires : tie.Need-check-lens-requires
-check-lens-requires c κs = omega arith
+check-lens-requires c κs = search needs
 
 or-elements-requires : tie.Need-or-elements-requires
-or-elements-requires c κs = omega arith
+or-elements-requires c κs = search needs
 
 returns : tie.Need-returns
 returns c = accumulate-verdict Field64 _ _ _ _ _ (c .before .check-lens .ensures) (c .or-elements .ensures)

@@ -1,21 +1,21 @@
 -- `vdaf::check_unshard` meets its contract. Assumes nothing.
 use Rattle.pine.specs.Param.{Field64}
 use Rattle.vdaf.proofs.Verdicts.{unshard-verdict}
-use native.Mathlib.Omega.{arith}
+use borrow.Author.Needs.{needs}
 use Rattle.vdaf.proofs.check_unshard.Statement.{statement}
 use Rattle.vdaf.proofs.check_unshard.Tie as tie
 
 check-lens-requires : tie.Need-check-lens-requires
-check-lens-requires c κs = omega arith
+check-lens-requires c κs = search needs
 
 check-len-requires : tie.Need-check-len-requires
-check-len-requires c κs = omega arith
+check-len-requires c κs = search needs
 
 or-requires : tie.Need-or-requires
-or-requires c κs = omega arith
+or-requires c κs = search needs
 
 or-elements-requires : tie.Need-or-elements-requires
-or-elements-requires c κs = omega arith
+or-elements-requires c κs = search needs
 
 returns : tie.Need-returns
 returns c =

@@ -41,16 +41,16 @@ loop-holds : tie.Need-loop-holds Inv-loop μ-loop
 loop-holds c = (search needs, refl, refl)
 
 mul-add : tie.Need-mul-add Inv-loop μ-loop
-mul-add c = omega arith
+mul-add c = search needs
 
 shared-slice-read-add : tie.Need-shared-slice-read-add Inv-loop μ-loop
-shared-slice-read-add c = omega arith
+shared-slice-read-add c = search needs
 
 mul-add-2 : tie.Need-mul-add-2 Inv-loop μ-loop
-mul-add-2 c = omega arith
+mul-add-2 c = search needs
 
 shared-slice-read-add-2 : tie.Need-shared-slice-read-add-2 Inv-loop μ-loop
-shared-slice-read-add-2 c = omega arith
+shared-slice-read-add-2 c = search needs
 
 add-requires : tie.Need-add-requires Inv-loop μ-loop
 add-requires c κs =
@@ -64,16 +64,16 @@ decode-requires c κs =
     (omega (arith, c .add .ensures), s .pre .1 .1)
 
 mul-decoded : tie.Need-mul-decoded Inv-loop μ-loop
-mul-decoded c = omega arith
+mul-decoded c = search needs
 
 slice-write-decoded : tie.Need-slice-write-decoded Inv-loop μ-loop
-slice-write-decoded c = omega arith
+slice-write-decoded c = search needs
 
 add-i : tie.Need-add-i Inv-loop μ-loop
-add-i c = omega arith
+add-i c = search needs
 
 loop-less : tie.Need-loop-less Inv-loop μ-loop
-loop-less c = omega arith
+loop-less c = search needs
 
 loop-again : tie.Need-loop-again Inv-loop μ-loop
 loop-again c =

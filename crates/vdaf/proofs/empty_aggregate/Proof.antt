@@ -1,24 +1,24 @@
 -- `vdaf::empty_aggregate` meets its contract. Assumes nothing.
 use Rattle.pine.specs.Param.{Field64}
 use Rattle.vdaf.proofs.Effects.{empty-refused, empty-done}
-use native.Mathlib.Omega.{arith}
+use borrow.Author.Needs.{needs}
 use Rattle.vdaf.proofs.empty_aggregate.Statement.{statement}
 use Rattle.vdaf.proofs.empty_aggregate.Tie as tie
 
 check-empty-requires : tie.Need-check-empty-requires
-check-empty-requires c κs = omega arith
+check-empty-requires c κs = search needs
 
 same-length : tie.Need-same-length
-same-length c = omega arith
+same-length c = search needs
 
 returns : tie.Need-returns
 returns c = empty-refused Field64 _ _ _ (c .before .before .check-empty .ensures) (c .if1 .taken)
 
 zero-row-requires : tie.Need-zero-row-requires
-zero-row-requires c κs = omega arith
+zero-row-requires c κs = search needs
 
 same-length-2 : tie.Need-same-length-2
-same-length-2 c = omega arith
+same-length-2 c = search needs
 
 returns-2 : tie.Need-returns-2
 returns-2 c =

@@ -3,15 +3,15 @@ use mathlib.Core.Path.{sym, ap, _∙_}
 use Rattle.pine.specs.Param.{Field64}
 use Rattle.pine.proofs.Limits.{limits}
 use Rattle.vdaf.proofs.Effects.{number, unshard-refused, unshard-met, unshard-done}
-use native.Mathlib.Omega.{arith}
+use borrow.Author.Needs.{needs}
 use Rattle.vdaf.proofs.unshard.Statement.{statement}
 use Rattle.vdaf.proofs.unshard.Tie as tie
 
 check-unshard-requires : tie.Need-check-unshard-requires
-check-unshard-requires c κs = omega arith
+check-unshard-requires c κs = search needs
 
 same-length : tie.Need-same-length
-same-length c = omega arith
+same-length c = search needs
 
 returns : tie.Need-returns
 returns c = unshard-refused Field64 _ _ _ _ _ (c .before .before .check-unshard .ensures) (c .if1 .taken)
@@ -28,7 +28,7 @@ decode-sums-requires c κs =
     ((t .0 .left-long ∙ sym (t .1), t .0 .right-long ∙ sym (t .1)), ((t .0 .left-below, t .0 .right-below), c .before .scale-of .ensures))
 
 same-length-2 : tie.Need-same-length-2
-same-length-2 c = omega arith
+same-length-2 c = search needs
 
 returns-2 : tie.Need-returns-2
 returns-2 c =

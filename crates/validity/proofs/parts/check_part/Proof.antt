@@ -6,7 +6,7 @@ use Rattle.pine.specs.Param.{Field64, paramAnswer}
 use Rattle.pine.proofs.Limits.{param-accepted}
 use Rattle.rows.specs.Rows.{rowRule}
 use Rattle.validity.proofs.Verdicts.{input-is, part-stopped, part-answer}
-use native.Mathlib.Omega.{arith}
+use borrow.Author.Needs.{needs}
 use Rattle.validity.proofs.parts.check_part.Statement.{statement}
 use Rattle.validity.proofs.parts.check_part.Tie as tie
 
@@ -15,7 +15,7 @@ met : (c : tie.Else1) → paramAnswer Field64 (c .before .before .before .before
 met c = ap (λ (a : Answer). a .number) (sym (c .before .before .check-param .ensures)) ∙ c .if1 .left
 
 check-param-requires : tie.Need-check-param-requires
-check-param-requires c κs = omega arith
+check-param-requires c κs = search needs
 
 returns : tie.Need-returns
 returns c =
@@ -26,16 +26,16 @@ new-requires : tie.Need-new-requires
 new-requires c κs = param-accepted Field64 _ (met c)
 
 input-len-requires : tie.Need-input-len-requires
-input-len-requires c κs = omega arith
+input-len-requires c κs = search needs
 
 check-len-requires : tie.Need-check-len-requires
-check-len-requires c κs = omega arith
+check-len-requires c κs = search needs
 
 check-elements-requires : tie.Need-check-elements-requires
-check-elements-requires c κs = omega arith
+check-elements-requires c κs = search needs
 
 or-requires : tie.Need-or-requires
-or-requires c κs = omega arith
+or-requires c κs = search needs
 
 returns-2 : tie.Need-returns-2
 returns-2 c =

@@ -7,6 +7,7 @@ use Rattle.rules.specs.declared.Answer.{Answer}
 use Rattle.flp.specs.Circuits.{checkedPart, checkedPartOf}
 use Rattle.validity.proofs.Verdicts.{Vector, part-met}
 use Rattle.validity.proofs.Cut.{ends, checked-is, part-no, part-yes}
+use borrow.Author.Needs.{needs}
 use Rattle.validity.proofs.parts.checked_part.Statement.{statement}
 use Rattle.validity.proofs.parts.checked_part.Tie as tie
 
@@ -16,16 +17,16 @@ vector c =
     part-met (b .before .before .args .param) (b .before .before .args .full .now) (ap (λ (x : Answer). x .number) (sym (b .check-part .ensures)) ∙ c .if1 .left)
 
 check-part-requires : tie.Need-check-part-requires
-check-part-requires c κs = omega arith
+check-part-requires c κs = search needs
 
 sub-result : tie.Need-sub-result
-sub-result c = omega arith
+sub-result c = search needs
 
 part-result-start : tie.Need-part-result-start
-part-result-start c = omega arith
+part-result-start c = search needs
 
 part-result-end : tie.Need-part-result-end
-part-result-end c = omega arith
+part-result-end c = search needs
 
 returns : tie.Need-returns
 unfolding checkedPartOf

@@ -6,6 +6,7 @@ use Rattle.flp.specs.Circuits.{gradientPart, gradientPartOf}
 use Rattle.validity.proofs.Verdicts.{Vector, part-met}
 use Rattle.pine.specs.Record.{pineOf}
 use Rattle.validity.proofs.Cut.{gradient-fits, gradient-is, part-no, part-yes}
+use borrow.Author.Needs.{needs}
 use Rattle.validity.proofs.parts.gradient_part.Statement.{statement}
 use Rattle.validity.proofs.parts.gradient_part.Tie as tie
 
@@ -15,16 +16,16 @@ vector c =
     part-met (b .before .before .args .param) (b .before .before .args .full .now) (ap (λ (x : Answer). x .number) (sym (b .check-part .ensures)) ∙ c .if1 .left)
 
 check-part-requires : tie.Need-check-part-requires
-check-part-requires c κs = omega arith
+check-part-requires c κs = search needs
 
 sub-result : tie.Need-sub-result
-sub-result c = omega arith
+sub-result c = search needs
 
 part-result-start : tie.Need-part-result-start
-part-result-start c = omega arith
+part-result-start c = search needs
 
 part-result-end : tie.Need-part-result-end
-part-result-end c = omega arith
+part-result-end c = search needs
 
 returns : tie.Need-returns
 unfolding gradientPartOf
@@ -34,10 +35,10 @@ returns c =
     part-no (a .param) (a .full .now) (gradientPart (a .param) (a .full .now)) _ (b .check-part .ensures) (c .before .if1 .taken)
 
 sub-result-2 : tie.Need-sub-result-2
-sub-result-2 c = omega arith
+sub-result-2 c = search needs
 
 part-result-start-2 : tie.Need-part-result-start-2
-part-result-start-2 c = omega arith
+part-result-start-2 c = search needs
 
 part-result-end-2 : tie.Need-part-result-end-2
 part-result-end-2 c = omega (arith, gradient-fits _ _ (vector c))

@@ -75,29 +75,25 @@ bits-requires-2 : tie.Need-bits-requires-2
 bits-requires-2 c κs = search needs
 
 mul-bit-checked-len : tie.Need-mul-bit-checked-len
-mul-bit-checked-len c = omega (arith, known c .norm-bits)
+mul-bit-checked-len c = omega (arith, known c)
 
 add-bit-checked-len : tie.Need-add-bit-checked-len
-add-bit-checked-len c = omega (arith, known c .bound-bits)
+add-bit-checked-len c = omega (arith, known c)
 
 mul-bit-checked-len-2 : tie.Need-mul-bit-checked-len-2
-mul-bit-checked-len-2 c = omega (arith, known (c .before) .test-bits)
+mul-bit-checked-len-2 c = omega (arith, known (c .before))
 
 add-bit-checked-len-2 : tie.Need-add-bit-checked-len-2
-add-bit-checked-len-2 c = omega (arith, known (c .before) .norm-bits, known (c .before) .test-bits)
+add-bit-checked-len-2 c = omega (arith, known (c .before))
 
 add-encoded-input-len : tie.Need-add-encoded-input-len
-add-encoded-input-len c =
-    let k = known (c .before .before) in
-    omega (arith, k .norm-bits, k .test-bits, k .limits .dimension)
+add-encoded-input-len c = omega (arith, known (c .before .before))
 
 scale-of-requires : tie.Need-scale-of-requires
 scale-of-requires c κs = known (c .before .before) .limits .fraction
 
 add-t8 : tie.Need-add-t8
-add-t8 c =
-    let k = known (c .before .before .before .before) in
-    omega (arith, k .norm-bits, k .test-bits, k .limits .dimension, k .limits .tests)
+add-t8 c = omega (arith, known (c .before .before .before .before))
 
 chunk-count-requires : tie.Need-chunk-count-requires
 chunk-count-requires c κs =
