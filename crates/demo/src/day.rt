@@ -2,7 +2,7 @@
 use crate::filing;
 use crate::made_up;
 use crate::report;
-use crate::rows;
+use crate::row;
 use rules::Answer;
 ghost use Prim.Native.Nat.{_<_};
 
@@ -128,13 +128,13 @@ fn same_as_fresh(
         &mut right_results_2,
         &mut full_2,
     );
-    rows::same(measurement, &measurement_2)
-        & rows::same(results, &results_2)
-        & rows::same(left_share, &left_share_2)
-        & rows::same(left_results, &left_results_2)
-        & rows::same(right_share, &right_share_2)
-        & rows::same(right_results, &right_results_2)
-        & rows::same(full, &full_2)
+    row::same(measurement, &measurement_2)
+        & row::same(results, &results_2)
+        & row::same(left_share, &left_share_2)
+        & row::same(left_results, &left_results_2)
+        & row::same(right_share, &right_share_2)
+        & row::same(right_results, &right_results_2)
+        & row::same(full, &full_2)
 }
 
 // The first day: fresh rows for each report. How many were filed.
@@ -241,13 +241,13 @@ pub fn second(left: &mut [u64], right: &mut [u64]) -> Counts {
     let mut right_share = [0u64; 96];
     let mut right_results = [0u64; 4];
     let mut full = [0u64; 100];
-    rows::fill(&mut measurement);
-    rows::fill(&mut results);
-    rows::fill(&mut left_share);
-    rows::fill(&mut left_results);
-    rows::fill(&mut right_share);
-    rows::fill(&mut right_results);
-    rows::fill(&mut full);
+    row::fill(&mut measurement);
+    row::fill(&mut results);
+    row::fill(&mut left_share);
+    row::fill(&mut left_results);
+    row::fill(&mut right_share);
+    row::fill(&mut right_results);
+    row::fill(&mut full);
     begin(left, right);
     second_in(
         left,

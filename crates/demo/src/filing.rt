@@ -4,7 +4,7 @@ use crate::made_up;
 use crate::report::DIMENSION;
 use crate::report::param;
 use crate::report::short;
-use crate::rows;
+use crate::row;
 use rules::Answer;
 ghost use Prim.Native.Nat.{_<_, _≤_};
 
@@ -62,7 +62,7 @@ pub fn is_true(left: &[u64], right: &[u64], key: usize) -> bool
     let mut gradient = [0.0f64; 4];
     made_up::gradient(key, &mut gradient);
     let answer = read(left, right, key, &mut decoded);
-    answer.number == 0 && rows::same_doubles(&decoded, &gradient)
+    answer.number == 0 && row::same_doubles(&decoded, &gradient)
 }
 
 // Adds the aggregate of a key to that of its controller.
@@ -94,7 +94,7 @@ pub fn merge_valves(total: &mut [u64], aggregates: &[u64], first: usize) -> Answ
 fn add_gradient(sum: &mut [f64], key: usize) {
     let mut gradient = [0.0f64; 4];
     made_up::gradient(key, &mut gradient);
-    rows::add_doubles(sum, &gradient);
+    row::add_doubles(sum, &gradient);
 }
 
 // The true sum over a controller's valves.

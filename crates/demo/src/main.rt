@@ -5,7 +5,7 @@ mod filing;
 mod made_up;
 mod print;
 mod report;
-mod rows;
+mod row;
 mod table;
 
 // Whether the lengths of the rows here are those that the parameters derive.

@@ -1,7 +1,7 @@
 // A report, from the client's gradient to the two servers' shares. The rows are lent: what they held
 // before does not matter.
 use crate::made_up;
-use crate::rows;
+use crate::row;
 use pine::PineParam;
 use rules::Answer;
 
@@ -51,7 +51,7 @@ pub fn encode(key: usize, measurement: &mut [u64], results: &mut [u64]) -> Answe
 // 2. The client cuts the measurement in two: the left share is random, the right one what is left.
 pub fn cut(key: usize, measurement: &[u64], left: &mut [u64], right: &mut [u64]) {
     made_up::elements(made_up::seed(key, made_up::CUT), left);
-    rows::subtract(measurement, left, right);
+    row::subtract(measurement, left, right);
 }
 
 // 3. A server runs the wraparound tests alone on the gradient part of its share.
@@ -73,8 +73,8 @@ pub fn join(
     full: &mut [u64],
 ) {
     if ENCODED_LEN <= full.len() {
-        rows::add(left, right, &mut full[0..ENCODED_LEN]);
-        rows::add(left_results, right_results, &mut full[ENCODED_LEN..]);
+        row::add(left, right, &mut full[0..ENCODED_LEN]);
+        row::add(left_results, right_results, &mut full[ENCODED_LEN..]);
     }
 }
 

@@ -5,7 +5,7 @@ use crate::filing;
 use crate::made_up;
 use crate::print;
 use crate::report::param;
-use crate::rows;
+use crate::row;
 ghost use Prim.Native.Nat.{_<_, _≤_};
 
 fn entry(decoded: f64, sum: f64, equal: bool) {
@@ -51,7 +51,7 @@ fn controller(left: &[u64], right: &[u64], first: usize)
     filing::merge_valves(&mut right_total, right, first);
     vdaf::unshard(param(), &left_total, &right_total, &mut decoded);
     filing::add_gradients(&mut sum, first);
-    entry(decoded[0], sum[0], rows::same_doubles(&decoded, &sum));
+    entry(decoded[0], sum[0], row::same_doubles(&decoded, &sum));
 }
 
 pub fn print(left: &[u64], right: &[u64]) {

@@ -3,7 +3,7 @@ use mathlib.Core.Path.{sym}
 use Rattle.field64.specs.Field.{p64}
 use Rattle.rules.proofs.Chain.{first-refused}
 use Rattle.rows.proofs.Elements.{elements-after}
-use native.Mathlib.Omega.{arith}
+use borrow.Author.Needs.{needs}
 use Rattle.rows.proofs.or_elements.Statement.{statement}
 use Rattle.rows.proofs.or_elements.Tie as tie
 

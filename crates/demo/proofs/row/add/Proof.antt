@@ -1,12 +1,12 @@
--- `demo::rows::add` is safe and ends. The invariant: the rows keep their length.
+-- `demo::row::add` is safe and ends. The invariant: the rows keep their length.
 -- Assumes nothing.
 use borrow.Author.Needs.{needs}
 use Prim.Native.Nat.{_≤_, _-_}
 use mathlib.Core.Path.{_≡_}
 use native.Mathlib.Omega.{arith}
 use lib.ListN.{length, length-set}
-use Rattle.demo.proofs.rows.add.Statement.{statement}
-use Rattle.demo.proofs.rows.add.Tie as tie
+use Rattle.demo.proofs.row.add.Statement.{statement}
+use Rattle.demo.proofs.row.add.Tie as tie
 
 abbrev Inv-loop : tie.InvT-loop
 Inv-loop left right all₀ i₀ all i = (length all ≡ length all₀) × (i ≤ length all₀)

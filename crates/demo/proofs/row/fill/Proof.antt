@@ -1,12 +1,12 @@
--- `demo::rows::fill` is safe and ends. The invariant: the rows keep their length.
+-- `demo::row::fill` is safe and ends. The invariant: the rows keep their length.
 -- Assumes nothing.
 use borrow.Author.Needs.{needs}
 use Prim.Native.Nat.{_≤_, _-_}
 use mathlib.Core.Path.{_≡_}
 use native.Mathlib.Omega.{arith}
 use lib.ListN.{length, length-set}
-use Rattle.demo.proofs.rows.fill.Statement.{statement}
-use Rattle.demo.proofs.rows.fill.Tie as tie
+use Rattle.demo.proofs.row.fill.Statement.{statement}
+use Rattle.demo.proofs.row.fill.Tie as tie
 
 abbrev Inv-loop : tie.InvT-loop
 Inv-loop row₀ i₀ row i = (length row ≡ length row₀) × (i ≤ length row₀)

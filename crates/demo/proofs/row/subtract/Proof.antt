@@ -1,12 +1,12 @@
--- `demo::rows::subtract` is safe and ends. The invariant: the rows keep their length.
+-- `demo::row::subtract` is safe and ends. The invariant: the rows keep their length.
 -- Assumes nothing.
 use borrow.Author.Needs.{needs}
 use Prim.Native.Nat.{_≤_, _-_}
 use mathlib.Core.Path.{_≡_}
 use native.Mathlib.Omega.{arith}
 use lib.ListN.{length, length-set}
-use Rattle.demo.proofs.rows.subtract.Statement.{statement}
-use Rattle.demo.proofs.rows.subtract.Tie as tie
+use Rattle.demo.proofs.row.subtract.Statement.{statement}
+use Rattle.demo.proofs.row.subtract.Tie as tie
 
 abbrev Inv-loop : tie.InvT-loop
 Inv-loop all left right₀ i₀ right i = (length right ≡ length right₀) × (i ≤ length all)

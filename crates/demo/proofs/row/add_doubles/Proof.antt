@@ -1,12 +1,12 @@
--- `demo::rows::add_doubles` is safe and ends. The invariant: the rows keep their length.
+-- `demo::row::add_doubles` is safe and ends. The invariant: the rows keep their length.
 -- Assumes nothing.
 use borrow.Author.Needs.{needs}
 use Prim.Native.Nat.{_≤_, _-_}
 use mathlib.Core.Path.{_≡_}
 use native.Mathlib.Omega.{arith}
 use lib.ListN.{length, length-set}
-use Rattle.demo.proofs.rows.add_doubles.Statement.{statement}
-use Rattle.demo.proofs.rows.add_doubles.Tie as tie
+use Rattle.demo.proofs.row.add_doubles.Statement.{statement}
+use Rattle.demo.proofs.row.add_doubles.Tie as tie
 
 abbrev Inv-loop : tie.InvT-loop
 Inv-loop sum₀ row i₀ sum i = (length sum ≡ length sum₀) × (i ≤ length sum₀)
