@@ -4,7 +4,7 @@ use crate::answers::ok_doubles;
 use crate::answers::ok_elements;
 use crate::answers::refused_lent;
 use crate::inputs::read_param;
-use lines::rows;
+use lines::row;
 use lines::words;
 use lines::words::Cursor;
 use pine::PineParam;
@@ -26,11 +26,11 @@ fn merge_or_accumulate(param: PineParam, agg: &mut [u64], share: &[u64], merging
 
 // Adds a row. `before` has room for the aggregate as it was.
 fn add(param: PineParam, agg: &mut [u64], share: &[u64], before: &mut [u64], merging: bool) -> Sum {
-    rows::copy(agg, before);
+    row::copy(agg, before);
     let answer = merge_or_accumulate(param, agg, share, merging);
     Sum {
         answer,
-        kept: rows::begins(before, agg),
+        kept: row::begins(before, agg),
     }
 }
 
@@ -124,12 +124,12 @@ fn sum_of(
     before: &mut [u64],
     row: &mut [u64],
 ) -> Sum {
-    rows::fill(agg);
+    row::fill(agg);
     let answer = vdaf::empty_aggregate(param, agg);
     if answer.number != 0 {
         return Sum {
             answer,
-            kept: rows::is_filled(agg),
+            kept: row::is_filled(agg),
         };
     }
     add_rows(param, line, c, count, agg, before, row)
@@ -184,12 +184,12 @@ fn answer_unshard(
     right: &[u64],
     decoded: &mut [f64],
 ) -> usize {
-    rows::fill_doubles(decoded);
+    row::fill_doubles(decoded);
     let answer = vdaf::unshard(param, left, right, decoded);
     if answer.number == 0 {
         ok_doubles(out, at, decoded)
     } else {
-        refused_lent(out, at, answer, rows::is_filled_doubles(decoded))
+        refused_lent(out, at, answer, row::is_filled_doubles(decoded))
     }
 }
 

@@ -4,7 +4,7 @@ use crate::answers::ok_elements;
 use crate::answers::ok_two_rows;
 use crate::answers::refused_lent;
 use crate::inputs::read_param;
-use lines::rows;
+use lines::row;
 use lines::words;
 use lines::words::Cursor;
 use pine::PineParam;
@@ -18,13 +18,13 @@ fn answer_encode(
     measurement: &mut [u64],
     results: &mut [u64],
 ) -> usize {
-    rows::fill(measurement);
-    rows::fill(results);
+    row::fill(measurement);
+    row::fill(results);
     let answer = encode::encode_with_wr_joint_rand(param, gradient, stream, measurement, results);
     if answer.number == 0 {
         ok_two_rows(out, at, measurement, results)
     } else {
-        let kept = rows::is_filled(measurement) & rows::is_filled(results);
+        let kept = row::is_filled(measurement) & row::is_filled(results);
         refused_lent(out, at, answer, kept)
     }
 }
@@ -95,12 +95,12 @@ fn answer_wrtests(
     stream: &[u8],
     results: &mut [u64],
 ) -> usize {
-    rows::fill(results);
+    row::fill(results);
     let answer = wr_tests::run_wr_tests(param, gradient, stream, results);
     if answer.number == 0 {
         ok_elements(out, at, results)
     } else {
-        refused_lent(out, at, answer, rows::is_filled(results))
+        refused_lent(out, at, answer, row::is_filled(results))
     }
 }
 

@@ -1,10 +1,10 @@
--- `lines::rows::begins` is safe and ends. The measure is what is left of the start.
+-- `lines::row::begins` is safe and ends. The measure is what is left of the start.
 -- Assumes nothing.
 use borrow.Author.Needs.{needs}
 use Prim.Native.Nat.{_≤_, _-_}
 use lib.ListN.{length}
-use Rattle.lines.proofs.rows.begins.Statement.{statement}
-use Rattle.lines.proofs.rows.begins.Tie as tie
+use Rattle.lines.proofs.row.begins.Statement.{statement}
+use Rattle.lines.proofs.row.begins.Tie as tie
 
 abbrev Inv-loop : tie.InvT-loop
 Inv-loop row start i₀ i = (i ≤ length start) × (length start ≤ length row)

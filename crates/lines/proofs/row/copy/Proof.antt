@@ -1,12 +1,12 @@
--- `lines::rows::copy` is safe and ends. The invariant: the row keeps its length.
+-- `lines::row::copy` is safe and ends. The invariant: the row keeps its length.
 -- Assumes nothing.
 use borrow.Author.Needs.{needs}
 use Prim.Native.Nat.{_≤_, _-_}
 use mathlib.Core.Path.{_≡_}
 use native.Mathlib.Omega.{arith}
 use lib.ListN.{length, length-set}
-use Rattle.lines.proofs.rows.copy.Statement.{statement}
-use Rattle.lines.proofs.rows.copy.Tie as tie
+use Rattle.lines.proofs.row.copy.Statement.{statement}
+use Rattle.lines.proofs.row.copy.Tie as tie
 
 abbrev Inv-loop : tie.InvT-loop
 Inv-loop from to₀ i₀ to i = (length to ≡ length to₀) × (i ≤ length from)

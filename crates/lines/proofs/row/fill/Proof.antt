@@ -1,12 +1,12 @@
--- `lines::rows::fill_doubles` is safe and ends. The invariant: the row keeps its length.
+-- `lines::row::fill` is safe and ends. The invariant: the row keeps its length.
 -- Assumes nothing.
 use borrow.Author.Needs.{needs}
 use Prim.Native.Nat.{_≤_, _-_}
 use mathlib.Core.Path.{_≡_}
 use native.Mathlib.Omega.{arith}
 use lib.ListN.{length, length-set}
-use Rattle.lines.proofs.rows.fill_doubles.Statement.{statement}
-use Rattle.lines.proofs.rows.fill_doubles.Tie as tie
+use Rattle.lines.proofs.row.fill.Statement.{statement}
+use Rattle.lines.proofs.row.fill.Tie as tie
 
 abbrev Inv-loop : tie.InvT-loop
 Inv-loop row₀ i₀ row i = (length row ≡ length row₀) × (i ≤ length row₀)
@@ -38,8 +38,8 @@ same-length c = search needs
 returns : tie.Need-returns Inv-loop μ-loop
 returns c = search needs
 
-pub fill-doubles-spec : {M : Type 1} → statement M
-fill-doubles-spec =
+pub fill-spec : {M : Type 1} → statement M
+fill-spec =
     tie.close
     (tie.spec
     Inv-loop
