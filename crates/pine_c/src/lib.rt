@@ -131,7 +131,7 @@ pub extern "C" fn pine_gradient_part(param: PineParam, full: &[u64]) -> Part
 {
     let mut number = 0;
     let mut place = 0;
-    let part = validity::parts::gradient_part(param, full, &mut number, &mut place);
+    let part = parts::gradient_part(param, full, &mut number, &mut place);
     part_at(number, place, 0, part.len())
 }
 
@@ -142,7 +142,7 @@ pub extern "C" fn pine_checked_part(param: PineParam, full: &[u64]) -> Part
 {
     let mut number = 0;
     let mut place = 0;
-    let part = validity::parts::checked_part(param, full, &mut number, &mut place);
+    let part = parts::checked_part(param, full, &mut number, &mut place);
     part_at(number, place, param.dimension as usize, part.len())
 }
 
@@ -153,7 +153,7 @@ pub extern "C" fn pine_results_part(param: PineParam, full: &[u64]) -> Part
 {
     let mut number = 0;
     let mut place = 0;
-    let part = validity::parts::results_part(param, full, &mut number, &mut place);
+    let part = parts::results_part(param, full, &mut number, &mut place);
     part_at(number, place, full.len() - part.len(), part.len())
 }
 

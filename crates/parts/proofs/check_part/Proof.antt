@@ -1,14 +1,14 @@
--- `validity::parts::check_part` meets its contract. Assumes nothing.
+-- `parts::check_part` meets its contract. Assumes nothing.
 use mathlib.Core.Path.{_≡_, sym, ap, _∙_}
 use lib.ListN.{length}
 use Rattle.rules.specs.declared.Answer.{Answer}
 use Rattle.pine.specs.Param.{Field64, paramAnswer}
 use Rattle.pine.proofs.Limits.{param-accepted}
 use Rattle.rows.specs.Rows.{rowRule}
-use Rattle.validity.proofs.Verdicts.{input-is, part-stopped, part-answer}
+use Rattle.parts.proofs.Vectors.{input-is, part-stopped, part-answer}
 use borrow.Author.Needs.{needs}
-use Rattle.validity.proofs.parts.check_part.Statement.{statement}
-use Rattle.validity.proofs.parts.check_part.Tie as tie
+use Rattle.parts.proofs.check_part.Statement.{statement}
+use Rattle.parts.proofs.check_part.Tie as tie
 
 -- the inputs are accepted
 met : (c : tie.Else1) → paramAnswer Field64 (c .before .before .before .before .args .param) .number ≡ 0

@@ -1,14 +1,14 @@
--- `validity::parts::gradient_part` meets its contract. Assumes nothing.
+-- `parts::gradient_part` meets its contract. Assumes nothing.
 use mathlib.Core.Path.{refl, sym, ap, _∙_}
 use native.Mathlib.Omega.{arith}
 use Rattle.rules.specs.declared.Answer.{Answer}
 use Rattle.flp.specs.Circuits.{gradientPart, gradientPartOf}
-use Rattle.validity.proofs.Verdicts.{Vector, part-met}
+use Rattle.parts.proofs.Vectors.{Vector, part-met}
 use Rattle.pine.specs.Record.{pineOf}
-use Rattle.validity.proofs.Cut.{gradient-fits, gradient-is, part-no, part-yes}
+use Rattle.parts.proofs.Cut.{gradient-fits, gradient-is, part-no, part-yes}
 use borrow.Author.Needs.{needs}
-use Rattle.validity.proofs.parts.gradient_part.Statement.{statement}
-use Rattle.validity.proofs.parts.gradient_part.Tie as tie
+use Rattle.parts.proofs.gradient_part.Statement.{statement}
+use Rattle.parts.proofs.gradient_part.Tie as tie
 
 vector : (c : tie.Else1) → Vector (c .before .before .before .before .args .param) (c .before .before .before .before .args .full .now)
 vector c =
