@@ -1,4 +1,2 @@
--- What the proofs of the functions cite: `Tables` of the two tables of a column, `Swapped` of the tests taken column by column, `Alone` of the cases of the call.
-pub mod Tables
-pub mod Swapped
+-- What the proofs of the functions cite: `Alone` of the cases of the call.
 mod Alone

@@ -2,9 +2,6 @@
 use pine::PineParam;
 use pine::record::Pine;
 use rules::Answer;
-
-pub mod columns;
-
 ghost use mathlib.Core.Path.{_≡_};
 ghost use Rattle.rules.specs.Rules.{inOrder};
 ghost use Rattle.pine.specs.Param.{Field64};

@@ -1,10 +1,10 @@
--- `wr_tests::columns::add_column_of` meets its contract. Assumes nothing.
+-- `columns::add_column_of` meets its contract. Assumes nothing.
 use native.Mathlib.Omega.{arith}
 use borrow.Author.Needs.{needs}
 use Rattle.field64.specs.Field.{p64}
-use Rattle.wr_tests.proofs.Swapped.{column-read}
-use Rattle.wr_tests.proofs.columns.add_column_of.Statement.{statement}
-use Rattle.wr_tests.proofs.columns.add_column_of.Tie as tie
+use Rattle.columns.proofs.Swapped.{column-read}
+use Rattle.columns.proofs.add_column_of.Statement.{statement}
+use Rattle.columns.proofs.add_column_of.Tie as tie
 
 mul-at : tie.Need-mul-at
 mul-at c = omega arith

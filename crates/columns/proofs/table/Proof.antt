@@ -1,9 +1,9 @@
--- `wr_tests::columns::table` meets its contract. Assumes nothing.
+-- `columns::table` meets its contract. Assumes nothing.
 use borrow.Author.Needs.{needs}
 use Rattle.field64.specs.Field.{p64}
-use Rattle.wr_tests.proofs.Tables.{table-law}
-use Rattle.wr_tests.proofs.columns.table.Statement.{statement}
-use Rattle.wr_tests.proofs.columns.table.Tie as tie
+use Rattle.columns.proofs.Tables.{table-law}
+use Rattle.columns.proofs.table.Statement.{statement}
+use Rattle.columns.proofs.table.Tie as tie
 
 neg-requires : tie.Need-neg-requires
 neg-requires c κs = search needs

@@ -14,7 +14,7 @@ use Rattle.field64.proofs.Modular.{modular}
 use Rattle.rows.specs.Rows.{Below}
 use Rattle.flp.specs.Bits.{groups}
 use Rattle.flp.specs.Tests.{pairs, weighed, weigh, testOf, testsOf}
-use Rattle.wr_tests.specs.Columns.{column, addColumn}
+use Rattle.columns.specs.Columns.{column, addColumn}
 use Rattle.flp.proofs.Tests.{tests-below}
 
 module _ (p : ℕ) where

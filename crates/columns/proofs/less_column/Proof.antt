@@ -1,4 +1,4 @@
--- `wr_tests::columns::less_column` meets its contract: a row whose elements are replaced from the front. Assumes nothing.
+-- `columns::less_column` meets its contract: a row whose elements are replaced from the front. Assumes nothing.
 use mathlib.Core.Path.{_≡_, refl, sym, ap, _∙_}
 use mathlib.Core.List.{List}
 use Prim.Native.Nat.{ℕ, _+_, _-_, _*_, _≤_, _<_}
@@ -9,10 +9,10 @@ use Rattle.field64.specs.Field.{p64}
 use Rattle.rows.proofs.Walk.{walked, walked-at, walked-next, walked-end}
 use Rattle.rows.specs.Rows.{Below}
 use Rattle.rows.proofs.Elements.{below-at}
-use Rattle.wr_tests.specs.Columns.{lessOf, lessColumn}
-use Rattle.wr_tests.proofs.Tables.{byte-inside, length-less, getD-less}
-use Rattle.wr_tests.proofs.columns.less_column.Statement.{statement}
-use Rattle.wr_tests.proofs.columns.less_column.Tie as tie
+use Rattle.columns.specs.Columns.{lessOf, lessColumn}
+use Rattle.columns.proofs.Tables.{byte-inside, length-less, getD-less}
+use Rattle.columns.proofs.less_column.Statement.{statement}
+use Rattle.columns.proofs.less_column.Tie as tie
 
 module _ (low high : List ℕ) (per j : ℕ) (s d : List ℕ) where
   abbrev done : List ℕ

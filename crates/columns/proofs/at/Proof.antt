@@ -1,11 +1,11 @@
--- `wr_tests::columns::at` meets its contract. Assumes nothing.
+-- `columns::at` meets its contract. Assumes nothing.
 use mathlib.Core.Path.{refl, sym}
 use lib.ListN.{List·getD-eq-default}
 use borrow.Author.Needs.{needs}
 use Rattle.field64.specs.Field.{p64}
 use Rattle.rows.proofs.Elements.{below-at}
-use Rattle.wr_tests.proofs.columns.at.Statement.{statement}
-use Rattle.wr_tests.proofs.columns.at.Tie as tie
+use Rattle.columns.proofs.at.Statement.{statement}
+use Rattle.columns.proofs.at.Tie as tie
 
 mul-result : tie.Need-mul-result
 mul-result c = search needs

@@ -1,11 +1,11 @@
--- `wr_tests::columns::add_column` meets its contract. Assumes nothing.
+-- `columns::add_column` meets its contract. Assumes nothing.
 use mathlib.Core.Path.{_∙_}
 use native.Mathlib.Omega.{arith}
 use borrow.Author.Needs.{needs}
 use Rattle.field64.specs.Field.{p64}
-use Rattle.wr_tests.proofs.Tables.{column-law}
-use Rattle.wr_tests.proofs.columns.add_column.Statement.{statement}
-use Rattle.wr_tests.proofs.columns.add_column.Tie as tie
+use Rattle.columns.proofs.Tables.{column-law}
+use Rattle.columns.proofs.add_column.Statement.{statement}
+use Rattle.columns.proofs.add_column.Tie as tie
 
 table-requires : tie.Need-table-requires
 table-requires c κs = search needs

@@ -11,7 +11,7 @@ use Rattle.field64.specs.Field.{addMod, subMod, negMod}
 use Rattle.field64.specs.Sums.{evaluate}
 use Rattle.field64.proofs.Modular.{modular, add-both, sub-is}
 use Rattle.flp.specs.Tests.{weighed}
-use Rattle.wr_tests.specs.Columns.{column, addColumn, Undoes, lessOf, lessColumn}
+use Rattle.columns.specs.Columns.{column, addColumn, Undoes, lessOf, lessColumn}
 
 -- ---- the entries
 

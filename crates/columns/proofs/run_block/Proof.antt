@@ -1,4 +1,4 @@
--- `wr_tests::columns::run_block` meets its contract: after j turns each result is over the first 4j coordinates. Assumes nothing.
+-- `columns::run_block` meets its contract: after j turns each result is over the first 4j coordinates. Assumes nothing.
 use mathlib.Core.Path.{_≡_, refl, ap, _∙_}
 use Prim.Native.Nat.{ℕ, _-_, _*_, _≤_}
 use native.Mathlib.Omega.{arith}
@@ -7,9 +7,9 @@ use lib.ListN.{length, take}
 use lib.Dec.{lit<}
 use Rattle.field64.specs.Field.{p64}
 use Rattle.flp.specs.Tests.{testsOf}
-use Rattle.wr_tests.proofs.Swapped.{columns-start, columns-below, columns-next, columns-end, same-room}
-use Rattle.wr_tests.proofs.columns.run_block.Statement.{statement}
-use Rattle.wr_tests.proofs.columns.run_block.Tie as tie
+use Rattle.columns.proofs.Swapped.{columns-start, columns-below, columns-next, columns-end, same-room}
+use Rattle.columns.proofs.run_block.Statement.{statement}
+use Rattle.columns.proofs.run_block.Tie as tie
 
 abbrev Inv-loop : tie.InvT-loop
 Inv-loop gradient per stream results₀ j₀ results j = (j ≤ per) × (length results ≡ length results₀) × (results ≡ testsOf p64 per (length results₀) stream (take (4 * j) gradient))

@@ -1,8 +1,8 @@
--- `wr_tests::columns::less` meets its contract. Assumes nothing.
+-- `columns::less` meets its contract. Assumes nothing.
 use native.Mathlib.Omega.{arith}
 use borrow.Author.Needs.{needs}
-use Rattle.wr_tests.proofs.columns.less.Statement.{statement}
-use Rattle.wr_tests.proofs.columns.less.Tie as tie
+use Rattle.columns.proofs.less.Statement.{statement}
+use Rattle.columns.proofs.less.Tie as tie
 
 cast-i : tie.Need-cast-i
 cast-i c = search needs
