@@ -1,4 +1,3 @@
--- Arithmetic modulo any number, with Field64's modulus, sums of rows, and a sum before it is reduced.
+-- Arithmetic modulo any number, with Field64's modulus, sums of rows.
 pub mod Field
 pub mod Sums
-pub mod Unreduced
