@@ -10,7 +10,7 @@ mod table;
 
 // Whether the lengths of the rows here are those that the parameters derive.
 fn lengths_are_derived() -> bool {
-    let derived = pine::derive(report::param());
+    let derived = params::derive(report::param());
     let pine = derived.pine;
     derived.answer.number == 0
         && pine.dimension == report::DIMENSION as u64

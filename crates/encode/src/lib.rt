@@ -18,7 +18,7 @@ fn check_encode(
 ) -> Answer
     ensures { λ r. ⌜ r ≡ inOrder (take 6 (encodeRules Field64 param (now (gradient .entry)) (now (stream .entry)) (now (measurement .entry)) (now (results .entry)))) ⌝ }
 {
-    let inputs = pine::check_param(param);
+    let inputs = params::check_param(param);
     if inputs.number != 0 {
         return inputs;
     }

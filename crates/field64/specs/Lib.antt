@@ -1,3 +1,3 @@
--- Arithmetic modulo any number, with Field64's modulus, sums of rows.
+-- Arithmetic modulo any number, with Field64's modulus, and sums of rows.
 pub mod Field
 pub mod Sums

@@ -13,7 +13,7 @@ ghost use Rattle.flp.specs.Circuits.{partRules, gradientPartOf, checkedPartOf, 
 fn check_part(param: PineParam, full: &[u64]) -> Answer
     ensures { λ r. ⌜ r ≡ inOrder (partRules Field64 param (now (full .entry))) ⌝ }
 {
-    let inputs = pine::check_param(param);
+    let inputs = params::check_param(param);
     if inputs.number != 0 {
         return inputs;
     }

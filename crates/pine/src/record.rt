@@ -1,5 +1,5 @@
 // Internal: the derived record, which answers for its own lengths. A function here asks its caller
-// for accepted inputs, or for a record that was derived from such; pine::derive tests them.
+// for accepted inputs, or for a record that was derived from such; params::derive tests them.
 use crate::PineParam;
 ghost use mathlib.Core.Path.{_≡_};
 ghost use Prim.Native.Nat.{_+_, _*_, _^_, _<_, _≤_};

@@ -33,14 +33,14 @@ pub struct Part {
 pub extern "C" fn pine_check_param(param: PineParam) -> Answer
     ensures { λ r. ⌜ r ≡ paramAnswer Field64 param ⌝ }
 {
-    pine::check_param(param)
+    params::check_param(param)
 }
 
 #[no_mangle]
 pub extern "C" fn pine_derive(param: PineParam) -> Derived
     ensures { λ r. ⌜ r ≡ deriveOf Field64 param ⌝ }
 {
-    pine::derive(param)
+    params::derive(param)
 }
 
 #[no_mangle]

@@ -147,7 +147,7 @@ fn aggregate_in(
     let read = read_param(line, c);
     let count = words::decimal(line, read.next);
     let next = pass_rows(line, count.next, count.value, row);
-    let derived = pine::derive(read.param);
+    let derived = params::derive(read.param);
     let mut lens = [derived.pine.dimension];
     if !words::ends_with_lens(line, next, &mut lens) {
         return bad(out, at);
@@ -205,7 +205,7 @@ fn unshard_in(
     let read = read_param(line, c);
     let left_row = words::elements(line, read.next, left);
     let right_row = words::elements(line, left_row.next, right);
-    let derived = pine::derive(read.param);
+    let derived = params::derive(read.param);
     let mut lens = [derived.pine.dimension];
     if !words::ends_with_lens(line, right_row.next, &mut lens) {
         return bad(out, at);

@@ -42,7 +42,7 @@ fn params(line: &[u8], c: Cursor, out: &mut [u8], at: usize) -> usize {
     if !words::ends(line, read.next) {
         return bad(out, at);
     }
-    let derived = pine::derive(read.param);
+    let derived = params::derive(read.param);
     let answer = derived.answer;
     if answer.number != 0 {
         return refused(out, at, answer);

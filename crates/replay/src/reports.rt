@@ -42,7 +42,7 @@ fn encode_in(
     let read = read_param(line, c);
     let gradient_row = words::doubles(line, read.next, gradient);
     let stream_row = words::bytes(line, gradient_row.next, stream);
-    let derived = pine::derive(read.param);
+    let derived = params::derive(read.param);
     let mut lens = [derived.pine.encoded_input_len, derived.pine.num_wr_tests];
     if !words::ends_with_lens(line, stream_row.next, &mut lens) {
         return bad(out, at);
@@ -116,7 +116,7 @@ fn wrtests_in(
     let read = read_param(line, c);
     let gradient_row = words::elements(line, read.next, gradient);
     let stream_row = words::bytes(line, gradient_row.next, stream);
-    let derived = pine::derive(read.param);
+    let derived = params::derive(read.param);
     let mut lens = [derived.pine.num_wr_tests];
     if !words::ends_with_lens(line, stream_row.next, &mut lens) {
         return bad(out, at);

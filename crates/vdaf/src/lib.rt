@@ -17,7 +17,7 @@ ghost use Rattle.vdaf.specs.Aggregates.{emptyAnswer, emptyOf, accumulate
 fn check_lens(param: PineParam, left: usize, right: usize) -> Answer
     ensures { λ r. ⌜ r ≡ first (paramAnswer Field64 param) (first (rowRule 1 left (param .dimension)) (rowRule 2 right (param .dimension))) ⌝ }
 {
-    let inputs = pine::check_param(param);
+    let inputs = params::check_param(param);
     let left_len = rows::check_len(1, left, param.dimension);
     let right_len = rows::check_len(2, right, param.dimension);
     inputs.or(left_len.or(right_len))
@@ -26,7 +26,7 @@ fn check_lens(param: PineParam, left: usize, right: usize) -> Answer
 fn check_empty(param: PineParam, row: &[u64]) -> Answer
     ensures { λ r. ⌜ r ≡ emptyAnswer Field64 param (now (row .entry)) ⌝ }
 {
-    let inputs = pine::check_param(param);
+    let inputs = params::check_param(param);
     let row_len = rows::check_len(1, row.len(), param.dimension);
     inputs.or(row_len)
 }

@@ -12,7 +12,7 @@ ghost use Rattle.flp.specs.Tests.{runTestsRules, runTestsOf};
 fn check_run_wr_tests(param: PineParam, gradient: &[u64], stream: &[u8], results: &[u64]) -> Answer
     ensures { λ r. ⌜ r ≡ inOrder (runTestsRules Field64 param (now (gradient .entry)) (now (stream .entry)) (now (results .entry))) ⌝ }
 {
-    let inputs = pine::check_param(param);
+    let inputs = params::check_param(param);
     if inputs.number != 0 {
         return inputs;
     }

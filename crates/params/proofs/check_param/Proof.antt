@@ -1,10 +1,10 @@
--- `pine::check_param` meets its contract: the rules of `paramRules`, in their order. Assumes nothing.
+-- `params::check_param` meets its contract: the rules of `paramRules`, in their order. Assumes nothing.
 use borrow.Author.Needs.{needs}
 use Rattle.rules.specs.Rules.{outOf}
 use Rattle.rules.proofs.Chain.{refuse-last}
 use Rattle.pine.specs.Param.{paramRules, paramAnswer}
-use Rattle.pine.proofs.check_param.Statement.{statement}
-use Rattle.pine.proofs.check_param.Tie as tie
+use Rattle.params.proofs.check_param.Statement.{statement}
+use Rattle.params.proofs.check_param.Tie as tie
 
 refuse-if-requires : tie.Need-refuse-if-requires
 refuse-if-requires c κs = search needs

@@ -1,10 +1,10 @@
--- `pine::limit` meets its contract. Assumes nothing.
+-- `params::limit` meets its contract. Assumes nothing.
 use borrow.Author.Needs.{needs}
 use mathlib.Core.Path.{_∙_, ap}
 use mathlib.Core.Bool.{Bool}
 use Rattle.rules.specs.Rules.{refuse}
-use Rattle.pine.proofs.limit.Statement.{statement}
-use Rattle.pine.proofs.limit.Tie as tie
+use Rattle.params.proofs.limit.Statement.{statement}
+use Rattle.params.proofs.limit.Tie as tie
 
 outside-requires : tie.Need-outside-requires
 outside-requires c κs = search needs

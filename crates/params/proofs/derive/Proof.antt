@@ -1,13 +1,13 @@
--- `pine::derive` meets its contract. Assumes nothing.
+-- `params::derive` meets its contract. Assumes nothing.
 use borrow.Author.Needs.{needs}
 use borrow.Author.Tests.{ne-eqb}
 use mathlib.Core.Path.{_≡_, sym, ap, _∙_}
 use Rattle.rules.specs.Rules.{accepted}
 use Rattle.pine.specs.Param.{Field64, paramAnswer}
 use Rattle.pine.specs.Record.{pineOf, FromAccepted, deriveOf}
 use Rattle.pine.proofs.Limits.{param-accepted}
-use Rattle.pine.proofs.derive.Statement.{statement}
-use Rattle.pine.proofs.derive.Tie as tie
+use Rattle.params.proofs.derive.Statement.{statement}
+use Rattle.params.proofs.derive.Tie as tie
 
 -- the inputs are accepted, and the record is theirs
 passed : (c : tie.Else1) → paramAnswer Field64 (c .before .before .before .args .param) ≡ accepted
