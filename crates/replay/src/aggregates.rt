@@ -1,9 +1,9 @@
 // The commands on aggregates.
-use crate::answers::bad;
-use crate::answers::ok_doubles;
-use crate::answers::ok_elements;
-use crate::answers::refused_lent;
 use crate::inputs::read_param;
+use answers::bad;
+use answers::ok_doubles;
+use answers::ok_elements;
+use answers::refused_lent;
 use lines::row;
 use lines::words;
 use lines::words::Cursor;

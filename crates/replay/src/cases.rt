@@ -1,12 +1,12 @@
 // The commands: what each reads of its line, and what it answers.
 use crate::aggregates;
-use crate::answers::answer_hex;
-use crate::answers::bad;
-use crate::answers::refused;
 use crate::circuits;
 use crate::inputs::read_param;
-use crate::print;
 use crate::reports;
+use answers::answer_hex;
+use answers::bad;
+use answers::print;
+use answers::refused;
 use lines::patterns::double_of;
 use lines::patterns::pattern_of;
 use lines::words;

@@ -1,8 +1,8 @@
 // The commands on the two validity circuits.
-use crate::answers::bad;
-use crate::answers::refused;
 use crate::inputs::read_param;
-use crate::print;
+use answers::bad;
+use answers::print;
+use answers::refused;
 use flp::Circuit;
 use lines::words;
 use lines::words::Cursor;

@@ -1,13 +1,12 @@
 // Reads cases from standard input, one a line, and writes a line for each: what the library answers,
 // or `bad` for a malformed case. Blank lines and lines that begin with # have no answer.
+use answers::print;
 use libc::STDIN_FILENO;
 
 mod aggregates;
-mod answers;
 mod cases;
 mod circuits;
 mod inputs;
-mod print;
 mod reports;
 
 ghost use mathlib.Core.Path.{_≡_};

@@ -1,9 +1,9 @@
 // The commands on a report: encoding, and the wraparound tests alone.
-use crate::answers::bad;
-use crate::answers::ok_elements;
-use crate::answers::ok_two_rows;
-use crate::answers::refused_lent;
 use crate::inputs::read_param;
+use answers::bad;
+use answers::ok_elements;
+use answers::ok_two_rows;
+use answers::refused_lent;
 use lines::row;
 use lines::words;
 use lines::words::Cursor;

@@ -1,6 +1,7 @@
-// The answers that several commands give.
-use crate::print;
+// The answers that several commands of replay give.
 use rules::Answer;
+
+pub mod print;
 
 pub fn bad(out: &mut [u8], at: usize) -> usize {
     print::text(out, at, b"bad\n")

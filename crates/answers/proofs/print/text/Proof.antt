@@ -1,11 +1,11 @@
--- `replay::print::text` is safe and ends. The measure is what is left of the text.
+-- `answers::print::text` is safe and ends. The measure is what is left of the text.
 -- Assumes nothing.
 use borrow.Author.Needs.{needs}
 use Prim.Native.Nat.{_≤_, _-_}
 use mathlib.Core.Path.{_≡_}
 use lib.ListN.{length}
-use Rattle.replay.proofs.print.text.Statement.{statement}
-use Rattle.replay.proofs.print.text.Tie as tie
+use Rattle.answers.proofs.print.text.Statement.{statement}
+use Rattle.answers.proofs.print.text.Tie as tie
 
 abbrev Inv-loop : tie.InvT-loop
 Inv-loop out₀ at s to₀ i₀ out to i = (length out ≡ length out₀) × (i ≤ length s)
