@@ -1,4 +1,6 @@
 // The commands on aggregates.
+use crate::inputs::lens_of;
+use crate::inputs::lent_row;
 use crate::inputs::read_param;
 use answers::bad;
 use answers::ok_doubles;
@@ -147,16 +149,12 @@ fn aggregate_in(
     let read = read_param(line, c);
     let count = words::decimal(line, read.next);
     let next = pass_rows(line, count.next, count.value, row);
-    let derived = params::derive(read.param);
-    let mut lens = [derived.pine.dimension];
-    if !words::ends_with_lens(line, next, &mut lens) {
+    let lens = lens_of(read.param);
+    let lent = lent_row(line, next, lens.dimension, agg.len());
+    if !lent.ok {
         return bad(out, at);
     }
-    let len = lens[0];
-    if len > agg.len() as u64 {
-        return bad(out, at);
-    }
-    let n = len as usize;
+    let n = lent.len;
     let sum = sum_of(
         read.param,
         line,
@@ -205,16 +203,12 @@ fn unshard_in(
     let read = read_param(line, c);
     let left_row = words::elements(line, read.next, left);
     let right_row = words::elements(line, left_row.next, right);
-    let derived = params::derive(read.param);
-    let mut lens = [derived.pine.dimension];
-    if !words::ends_with_lens(line, right_row.next, &mut lens) {
+    let lens = lens_of(read.param);
+    let lent = lent_row(line, right_row.next, lens.dimension, decoded.len());
+    if !lent.ok {
         return bad(out, at);
     }
-    let len = lens[0];
-    if len > decoded.len() as u64 {
-        return bad(out, at);
-    }
-    let n = len as usize;
+    let n = lent.len;
     let l = left_row.len;
     let r = right_row.len;
     answer_unshard(

@@ -1,7 +1,8 @@
-// The seven inputs of a case.
+// The seven inputs of a case, and the lengths of the rows that its call is lent.
 use lines::words;
 use lines::words::Cursor;
 use pine::PineParam;
+ghost use Prim.Native.Nat.{_≤_};
 
 pub struct ReadParam {
     pub param: PineParam,
@@ -27,4 +28,70 @@ pub fn read_param(line: &[u8], c: Cursor) -> ReadParam {
         num_wr_successes: num_wr_successes.value,
     };
     ReadParam { param, next }
+}
+
+// Derived lengths: 0 where the inputs are refused.
+pub struct Lens {
+    pub dimension: u64,
+    pub measurement: u64,
+    pub results: u64,
+}
+
+pub fn lens_of(param: PineParam) -> Lens {
+    let derived = params::derive(param);
+    let pine = derived.pine;
+    Lens {
+        dimension: pine.dimension,
+        measurement: pine.encoded_input_len,
+        results: pine.num_wr_tests,
+    }
+}
+
+// The length of a lent row, where all is well with the line.
+pub struct Lent {
+    pub ok: bool,
+    pub len: usize,
+}
+
+fn fit(ok: bool, len: u64, room: usize) -> Lent
+    ensures { λ r. ⌜ r .len ≤ room ⌝ }
+{
+    if ok && len <= room as u64 {
+        Lent {
+            ok: true,
+            len: len as usize,
+        }
+    } else {
+        Lent { ok: false, len: 0 }
+    }
+}
+
+// The row of a command that is lent one: the line may end with its length in place of the derived one.
+pub fn lent_row(line: &[u8], c: Cursor, derived: u64, room: usize) -> Lent
+    ensures { λ r. ⌜ r .len ≤ room ⌝ }
+{
+    let mut lens = [derived];
+    let ok = words::ends_with_lens(line, c, &mut lens);
+    fit(ok, lens[0], room)
+}
+
+pub struct LentTwo {
+    pub ok: bool,
+    pub first: usize,
+    pub second: usize,
+}
+
+// The same of a command that is lent two.
+pub fn lent_rows(line: &[u8], c: Cursor, derived: [u64; 2], room_1: usize, room_2: usize) -> LentTwo
+    ensures { λ r. ⌜ (r .first ≤ «room_1») × (r .second ≤ «room_2») ⌝ }
+{
+    let mut lens = derived;
+    let ok = words::ends_with_lens(line, c, &mut lens);
+    let first = fit(ok, lens[0], room_1);
+    let second = fit(ok, lens[1], room_2);
+    LentTwo {
+        ok: first.ok & second.ok,
+        first: first.len,
+        second: second.len,
+    }
 }

@@ -1,4 +1,7 @@
 // The commands on a report: encoding, and the wraparound tests alone.
+use crate::inputs::lens_of;
+use crate::inputs::lent_row;
+use crate::inputs::lent_rows;
 use crate::inputs::read_param;
 use answers::bad;
 use answers::ok_elements;
@@ -42,23 +45,21 @@ fn encode_in(
     let read = read_param(line, c);
     let gradient_row = words::doubles(line, read.next, gradient);
     let stream_row = words::bytes(line, gradient_row.next, stream);
-    let derived = params::derive(read.param);
-    let mut lens = [derived.pine.encoded_input_len, derived.pine.num_wr_tests];
-    if !words::ends_with_lens(line, stream_row.next, &mut lens) {
-        return bad(out, at);
-    }
-    let measurement_len = lens[0];
-    let results_len = lens[1];
-    if measurement_len > measurement.len() as u64 {
-        return bad(out, at);
-    }
-    if results_len > results.len() as u64 {
+    let lens = lens_of(read.param);
+    let lent = lent_rows(
+        line,
+        stream_row.next,
+        [lens.measurement, lens.results],
+        measurement.len(),
+        results.len(),
+    );
+    if !lent.ok {
         return bad(out, at);
     }
     let n = gradient_row.len;
     let s = stream_row.len;
-    let m = measurement_len as usize;
-    let t = results_len as usize;
+    let m = lent.first;
+    let t = lent.second;
     answer_encode(
         read.param,
         out,
@@ -116,18 +117,14 @@ fn wrtests_in(
     let read = read_param(line, c);
     let gradient_row = words::elements(line, read.next, gradient);
     let stream_row = words::bytes(line, gradient_row.next, stream);
-    let derived = params::derive(read.param);
-    let mut lens = [derived.pine.num_wr_tests];
-    if !words::ends_with_lens(line, stream_row.next, &mut lens) {
-        return bad(out, at);
-    }
-    let len = lens[0];
-    if len > results.len() as u64 {
+    let lens = lens_of(read.param);
+    let lent = lent_row(line, stream_row.next, lens.results, results.len());
+    if !lent.ok {
         return bad(out, at);
     }
     let n = gradient_row.len;
     let s = stream_row.len;
-    let t = len as usize;
+    let t = lent.len;
     answer_wrtests(
         read.param,
         out,
