@@ -26,7 +26,7 @@ use Rattle.rows.proofs.Lengths.{row-right}
 use Rattle.flp.specs.Tests.{testsOf}
 use Rattle.flp.specs.Encode.{elements, sqNorm, resultsOf, measurementOf, coordinatesRule, gradientLenRule, sqNormRule, inRange, rangeRule, encodeOutcome, encodeRules, encodeAnswer, encodeOf}
 use Rattle.measurement.specs.Parts.{Usable, checkedOf}
-use Rattle.gradient.proofs.Coordinates.{all-usable}
+use Rattle.gradient_rules.proofs.Searches.{all-usable}
 
 -- each as the last rule of a chain
 range-last : (p b k : ℕ) (rs : List ℕ) → first (rangeRule p b k rs) accepted ≡ rangeRule p b k rs

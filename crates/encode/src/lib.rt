@@ -26,8 +26,8 @@ fn check_encode(
     let row_2 = rows::check_len(2, stream.len(), pine.stream_len());
     let row_3 = rows::check_len(3, measurement.len(), pine.encoded_input_len);
     let row_4 = rows::check_len(4, results.len(), pine.num_wr_tests);
-    let coordinates = gradient::check_coordinates(gradient);
-    let gradient_len = gradient::check_gradient_len(gradient.len(), pine.dimension);
+    let coordinates = gradient_rules::check_coordinates(gradient);
+    let gradient_len = gradient_rules::check_gradient_len(gradient.len(), pine.dimension);
     row_2.or(row_3.or(row_4.or(coordinates.or(gradient_len))))
 }
 
@@ -48,7 +48,12 @@ fn encode_usable(
     let pine = Pine::new(param);
     let per = (gradient.len() + 3) / 4;
     let v = gradient::norm_and_tests(gradient, pine.scale, pine.frac_bits, per, stream, found);
-    let late = gradient::check_norm_and_tests(v, pine.sq_norm_bound, found, pine.wr_test_bound);
+    let late = gradient_rules::check_norm_and_tests(
+        v,
+        pine.sq_norm_bound,
+        found,
+        pine.wr_test_bound,
+    );
     if late.number != 0 {
         return late;
     }

@@ -1,2 +1,2 @@
--- What the proofs of the functions cite: `Coordinates` of the loops over the gradient and the results.
-pub mod Coordinates
+-- What the proofs of the functions cite: `Norm` of the squared norm.
+mod Norm
