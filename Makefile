@@ -3,10 +3,10 @@
 
 kit = @command -v rt >/dev/null || { echo "rt is not on the PATH: install the Rattle kit" >&2; exit 1; }
 
-# the gate: .ci/run runs this. Four proofs at a time even on two processors: rt waits for the slowest of each few
+# the gate: .ci/run runs this
 test:
 	$(kit)
-	RT_JOBS=4 rt ci
+	rt ci
 
 # the main job, as a tutorial: two controllers of valves, two servers, a day's reports. rt try runs the program with no
 # proof, four ways, and holds what each writes to the file that is shown then
