@@ -1,6 +1,6 @@
 /* PINE reports over Field64: the proved calls of libpine_c.a, for C11 and C++.
  *
- * Each call is the function of the same name in the Rattle crates doubles, pine, wr_tests, encode,
+ * Each call is the function of the same name in the Rattle crates doubles, params, wr_tests, encode, parts,
  * validity and vdaf, with the same contract: for ANY numbers and any bytes in its rows it ends, reads and
  * writes inside its rows only, and gives exactly what the definitions in crates/.../specs say, refusals
  * included. docs/C.md has the tables of rows and refusals, and how to link.
