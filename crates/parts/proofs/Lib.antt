@@ -1,3 +1,3 @@
--- What the proofs of the functions cite, and those of the circuits: `Vectors` of the rules, `Cut` of the parts of a vector.
+-- What the proofs of the functions cite: `Vectors` of the rules, which those of the circuits cite too, `Places` of where the parts lie.
 pub mod Vectors
-pub mod Cut
+mod Places

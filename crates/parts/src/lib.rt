@@ -1,13 +1,24 @@
-// The parts of a full vector, each handed back as a part of the caller's own row. Number and place
-// go into two lent numbers; a refused call hands back an empty part.
+// The parts of a full vector: where each lies, and each handed back as a part of the caller's own row.
 use pine::PineParam;
 use pine::record::Pine;
 use rules::Answer;
 ghost use mathlib.Core.Path.{_≡_};
+ghost use Prim.Native.Nat.{_+_, _≤_};
+ghost use lib.ListN.{length};
 ghost use Rattle.rules.specs.Rules.{answer, inOrder};
 ghost use Rattle.pine.specs.Param.{Field64};
+ghost use Rattle.pine.specs.Record.{bitCheckedLen, encodedInputLen};
 ghost use Rattle.rows.specs.Outcome.{outcome};
 ghost use Rattle.flp.specs.Circuits.{partRules, gradientPartOf, checkedPartOf, resultsPartOf};
+ghost use Rattle.parts.specs.Places.{partAt, named};
+
+// A part of a row by its place: len elements from start on. Both are 0 beside a refusal.
+#[repr(C)]
+pub struct Part {
+    pub answer: Answer,
+    pub start: u64,
+    pub len: u64,
+}
 
 // The rules of each part.
 fn check_part(param: PineParam, full: &[u64]) -> Answer
@@ -22,6 +33,63 @@ fn check_part(param: PineParam, full: &[u64]) -> Answer
     row_1.or(rows::check_elements(full, 0))
 }
 
+fn part_at(answer: Answer, start: u64, len: u64) -> Part
+    ensures { λ r. ⌜ r ≡ partAt answer start len ⌝ }
+{
+    if answer.number != 0 {
+        return Part {
+            answer,
+            start: 0,
+            len: 0,
+        };
+    }
+    Part { answer, start, len }
+}
+
+// The first clause of each place says where it is, the second which elements stand there. The derived
+// record is all 0 where the inputs are refused.
+
+pub fn locate_gradient(param: PineParam, full: &[u64]) -> Part
+    ensures { λ r. ⌜ r ≡ partAt (inOrder (partRules Field64 param (now (full .entry)))) 0 (param .dimension) ⌝ }
+    ensures { λ r. ⌜ named r (now (full .entry)) ≡ gradientPartOf Field64 param (now (full .entry)) ⌝ }
+{
+    let answer = check_part(param, full);
+    part_at(answer, 0, param.dimension)
+}
+
+pub fn locate_checked(param: PineParam, full: &[u64]) -> Part
+    ensures { λ r. ⌜ r ≡ partAt (inOrder (partRules Field64 param (now (full .entry)))) (param .dimension) (bitCheckedLen param) ⌝ }
+    ensures { λ r. ⌜ named r (now (full .entry)) ≡ checkedPartOf Field64 param (now (full .entry)) ⌝ }
+{
+    let answer = check_part(param, full);
+    let derived = params::derive(param);
+    let pine = derived.pine;
+    part_at(answer, param.dimension, pine.bit_checked_len)
+}
+
+pub fn locate_results(param: PineParam, full: &[u64]) -> Part
+    ensures { λ r. ⌜ r ≡ partAt (inOrder (partRules Field64 param (now (full .entry)))) (encodedInputLen param) (param .«num_wr_tests») ⌝ }
+    ensures { λ r. ⌜ named r (now (full .entry)) ≡ resultsPartOf Field64 param (now (full .entry)) ⌝ }
+{
+    let answer = check_part(param, full);
+    let derived = params::derive(param);
+    let pine = derived.pine;
+    part_at(answer, pine.encoded_input_len, param.num_wr_tests)
+}
+
+// The part itself: number and place go into two lent numbers, and a refused one is empty.
+fn hand_back<'a>(full: &'a [u64], part: Part, number: &mut u64, place: &mut u64) -> &'a [u64]
+    requires { ⌜ part .start + part .len ≤ length (now full) ⌝ }
+    ensures { λ r. ⌜ outcome (answer (now (number .exit)) (now (place .exit))) (now r) ≡ named part (now (full .entry)) ⌝ }
+{
+    let verdict = part.answer;
+    *number = verdict.number;
+    *place = verdict.place;
+    let start = part.start as usize;
+    let end = start + part.len as usize;
+    &full[start..end]
+}
+
 // The gradient.
 pub fn gradient_part<'a>(
     param: PineParam,
@@ -31,14 +99,8 @@ pub fn gradient_part<'a>(
 ) -> &'a [u64]
     ensures { λ r. ⌜ outcome (answer (now (number .exit)) (now (place .exit))) (now r) ≡ gradientPartOf Field64 param (now (full .entry)) ⌝ }
 {
-    let verdict = check_part(param, full);
-    *number = verdict.number;
-    *place = verdict.place;
-    if verdict.number != 0 {
-        return &full[0..0];
-    }
-    let end = param.dimension as usize;
-    &full[0..end]
+    let part = locate_gradient(param, full);
+    hand_back(full, part, number, place)
 }
 
 // The L checked elements.
@@ -50,16 +112,8 @@ pub fn checked_part<'a>(
 ) -> &'a [u64]
     ensures { λ r. ⌜ outcome (answer (now (number .exit)) (now (place .exit))) (now r) ≡ checkedPartOf Field64 param (now (full .entry)) ⌝ }
 {
-    let verdict = check_part(param, full);
-    *number = verdict.number;
-    *place = verdict.place;
-    if verdict.number != 0 {
-        return &full[0..0];
-    }
-    let pine = Pine::new(param);
-    let start = pine.dimension as usize;
-    let end = pine.encoded_input_len as usize;
-    &full[start..end]
+    let part = locate_checked(param, full);
+    hand_back(full, part, number, place)
 }
 
 // The results of the tests.
@@ -71,13 +125,6 @@ pub fn results_part<'a>(
 ) -> &'a [u64]
     ensures { λ r. ⌜ outcome (answer (now (number .exit)) (now (place .exit))) (now r) ≡ resultsPartOf Field64 param (now (full .entry)) ⌝ }
 {
-    let verdict = check_part(param, full);
-    *number = verdict.number;
-    *place = verdict.place;
-    if verdict.number != 0 {
-        return &full[0..0];
-    }
-    let pine = Pine::new(param);
-    let start = pine.encoded_input_len as usize;
-    &full[start..]
+    let part = locate_results(param, full);
+    hand_back(full, part, number, place)
 }

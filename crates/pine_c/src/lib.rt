@@ -4,11 +4,12 @@
 use doubles::Coordinate;
 use doubles::Decoded;
 use flp::Circuit;
+use parts::Part;
 use pine::Derived;
 use pine::PineParam;
 use rules::Answer;
 ghost use mathlib.Core.Path.{_≡_};
-ghost use Rattle.rules.specs.Rules.{answer, inOrder};
+ghost use Rattle.rules.specs.Rules.{inOrder};
 ghost use Rattle.field64.specs.Field.{p64};
 ghost use Rattle.doubles.specs.Doubles.{coordinateOf, decodedOf};
 ghost use Rattle.pine.specs.Param.{Field64, paramAnswer};
@@ -18,16 +19,7 @@ ghost use Rattle.flp.specs.Tests.{runTestsOf};
 ghost use Rattle.flp.specs.Encode.{encodeOutcome, encodeOf};
 ghost use Rattle.flp.specs.Circuits.{validOf, validEqualOf, partRules, gradientPartOf, checkedPartOf, resultsPartOf};
 ghost use Rattle.vdaf.specs.Aggregates.{emptyOf, accumulateOf, unshardOutcome, unshardOf};
-ghost use Rattle.pine_c.specs.Places.{partAt, named};
-
-// A part of the caller's row by its place, since no reference is handed back to C: len elements from
-// start on. Both are 0 beside a refusal.
-#[repr(C)]
-pub struct Part {
-    pub answer: Answer,
-    pub start: u64,
-    pub len: u64,
-}
+ghost use Rattle.parts.specs.Places.{partAt, named};
 
 #[no_mangle]
 pub extern "C" fn pine_check_param(param: PineParam) -> Answer
@@ -105,34 +97,15 @@ pub extern "C" fn pine_valid_sq_norm_equal(
     validity::valid_sq_norm_equal(param, num_shares, full)
 }
 
-fn part_at(number: u64, place: u64, start: usize, len: usize) -> Part
-    ensures { λ r. ⌜ r ≡ partAt (answer number place) start len ⌝ }
-{
-    if number != 0 {
-        return Part {
-            answer: Answer { number, place },
-            start: 0,
-            len: 0,
-        };
-    }
-    Part {
-        answer: Answer { number, place },
-        start: start as u64,
-        len: len as u64,
-    }
-}
-
-// The first clause of each part says its place, the second which elements stand there.
+// A part of the caller's row goes by its place, since no reference is handed back to C. The first clause
+// of each says where it is, the second which elements stand there.
 
 #[no_mangle]
 pub extern "C" fn pine_gradient_part(param: PineParam, full: &[u64]) -> Part
     ensures { λ r. ⌜ r ≡ partAt (inOrder (partRules Field64 param (now (full .entry)))) 0 (param .dimension) ⌝ }
     ensures { λ r. ⌜ named r (now (full .entry)) ≡ gradientPartOf Field64 param (now (full .entry)) ⌝ }
 {
-    let mut number = 0;
-    let mut place = 0;
-    let part = parts::gradient_part(param, full, &mut number, &mut place);
-    part_at(number, place, 0, part.len())
+    parts::locate_gradient(param, full)
 }
 
 #[no_mangle]
@@ -140,10 +113,7 @@ pub extern "C" fn pine_checked_part(param: PineParam, full: &[u64]) -> Part
     ensures { λ r. ⌜ r ≡ partAt (inOrder (partRules Field64 param (now (full .entry)))) (param .dimension) (bitCheckedLen param) ⌝ }
     ensures { λ r. ⌜ named r (now (full .entry)) ≡ checkedPartOf Field64 param (now (full .entry)) ⌝ }
 {
-    let mut number = 0;
-    let mut place = 0;
-    let part = parts::checked_part(param, full, &mut number, &mut place);
-    part_at(number, place, param.dimension as usize, part.len())
+    parts::locate_checked(param, full)
 }
 
 #[no_mangle]
@@ -151,10 +121,7 @@ pub extern "C" fn pine_results_part(param: PineParam, full: &[u64]) -> Part
     ensures { λ r. ⌜ r ≡ partAt (inOrder (partRules Field64 param (now (full .entry)))) (encodedInputLen param) (param .«num_wr_tests») ⌝ }
     ensures { λ r. ⌜ named r (now (full .entry)) ≡ resultsPartOf Field64 param (now (full .entry)) ⌝ }
 {
-    let mut number = 0;
-    let mut place = 0;
-    let part = parts::results_part(param, full, &mut number, &mut place);
-    part_at(number, place, full.len() - part.len(), part.len())
+    parts::locate_results(param, full)
 }
 
 #[no_mangle]

@@ -1,3 +1,4 @@
--- What the proofs of the functions cite: `Verdicts` of the rules, `Cut` of the circuits on the parts of the vector.
+-- What the proofs of the functions cite: `Verdicts` of the rules, `Parts` of the parts of the vector, `Cut` of the circuits on them.
 mod Verdicts
+mod Parts
 mod Cut

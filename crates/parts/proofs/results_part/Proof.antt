@@ -1,79 +1,18 @@
 -- `parts::results_part` meets its contract. Assumes nothing.
-use mathlib.Core.Path.{sym, ap, _∙_}
-use Prim.Native.Nat.{_≤_}
-use native.Mathlib.Omega.{arith}
-use lib.ListN.{length}
-use Rattle.rules.specs.declared.Answer.{Answer}
-use Rattle.flp.specs.Circuits.{resultsPart, resultsPartOf}
-use Rattle.parts.proofs.Vectors.{Vector, part-met}
-use Rattle.parts.proofs.Cut.{ends, results-is, part-no, part-yes}
+use mathlib.Core.Path.{_∙_}
 use borrow.Author.Needs.{needs}
+use Rattle.parts.proofs.Places.{results-inside}
 use Rattle.parts.proofs.results_part.Statement.{statement}
 use Rattle.parts.proofs.results_part.Tie as tie
 
-vector : (c : tie.Else1) → Vector (c .before .before .before .before .args .param) (c .before .before .before .before .args .full .now)
-vector c =
-    let b = c .before .before in
-    part-met (b .before .before .args .param) (b .before .before .args .full .now) (ap (λ (x : Answer). x .number) (sym (b .check-part .ensures)) ∙ c .if1 .left)
+locate-results-requires : tie.Need-locate-results-requires
+locate-results-requires c κs = search needs
 
-check-part-requires : tie.Need-check-part-requires
-check-part-requires c κs = search needs
-
-sub-result : tie.Need-sub-result
-sub-result c = search needs
-
-part-result-start : tie.Need-part-result-start
-part-result-start c = search needs
-
-part-result-end : tie.Need-part-result-end
-part-result-end c = search needs
+hand-back-requires : tie.Need-hand-back-requires
+hand-back-requires c κs = results-inside _ _ _ (c .before .before .locate-results .ensures .0)
 
 returns : tie.Need-returns
-unfolding resultsPartOf
-returns c =
-    let b = c .before .before .before in
-    let a = b .before .before .args in
-    part-no (a .param) (a .full .now) (resultsPart (a .param) (a .full .now)) _ (b .check-part .ensures) (c .before .if1 .taken)
-
-inside : (c : tie.After-new) → (c .new .result .dimension ≤ c .new .result .«encoded_input_len») × (c .new .result .«encoded_input_len» ≤ length (c .before .before .before .before .before .args .full .now))
-inside c = ends (c .before .before .before .before .before .args .param) (c .before .before .before .before .before .args .full .now) (vector (c .before)) (c .new .result) (c .new .ensures)
-
-new-requires : tie.Need-new-requires
-new-requires c κs = vector c .inputs
-
-mul-result : tie.Need-mul-result
-mul-result c = omega (arith, inside c)
-
-sub-result-2 : tie.Need-sub-result-2
-sub-result-2 c = omega (arith, inside c)
-
-part-result-start-2 : tie.Need-part-result-start-2
-part-result-start-2 c = omega (arith, inside c)
-
-part-result-end-2 : tie.Need-part-result-end-2
-part-result-end-2 c = omega (arith, inside c)
-
-returns-2 : tie.Need-returns-2
-unfolding resultsPartOf
-returns-2 c =
-    let n = c .before in
-    let e = n .before in
-    let b = e .before .before in
-    let a = b .before .before .args in
-    part-yes (a .param) (a .full .now) (resultsPart (a .param) (a .full .now)) _ (b .check-part .ensures) _ (e .if1 .left) (results-is (a .param) (a .full .now) (vector e) _ (n .new .ensures))
+returns c = c .hand-back .ensures ∙ c .before .before .before .locate-results .ensures .1
 
 pub results-part-spec : {M : Type 1} → statement M
-results-part-spec =
-    tie.close
-    (tie.spec
-    check-part-requires
-    sub-result
-    part-result-start
-    part-result-end
-    returns
-    new-requires
-    mul-result
-    sub-result-2
-    part-result-start-2
-    part-result-end-2
-    returns-2)
+results-part-spec = tie.close (tie.spec locate-results-requires hand-back-requires returns)

@@ -1,4 +1,4 @@
--- A part of a row by its place in it, since an exported function hands back no reference. Assumes nothing.
+-- A part of a row by its place in it. Assumes nothing.
 use Prim.Native.Nat.{ℕ}
 use mathlib.Core.Bool.{cond}
 use mathlib.Core.List.{List}
@@ -6,7 +6,7 @@ use lib.ListN.{take, drop}
 use lib.Dec.{eqb}
 use Rattle.rules.specs.declared.Answer.{Answer}
 use Rattle.rows.specs.Outcome.{Outcome, outcome}
-use Rattle.pine_c.specs.declared.Part.{Part}
+use Rattle.parts.specs.declared.Part.{Part}
 
 -- beside a refusal, both numbers are 0
 abbrev pub partAt : Answer → (start len : ℕ) → Part

@@ -1,2 +1,0 @@
--- `Places`: laws of the parts of a row by their places.
-pub mod Places
