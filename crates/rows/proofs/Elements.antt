@@ -2,19 +2,17 @@
 use mathlib.Core.Path.{_≡_, refl, sym, ap, _∙_}
 use mathlib.Core.Bool.{Bool, true, false, cond}
 use mathlib.Core.List.{List, [], _∷_, _++_}
-use Prim.Native.Nat.{ℕ, zero, suc, _+_, _-_, _/_, _%_, _^_, _≤_, _<_}
+use Prim.Native.Nat.{ℕ, zero, suc, _+_, _≤_, _<_}
 use native.Mathlib.Nat.{zero-add}
 use native.Mathlib.Numerals.{add-one}
 use native.Mathlib.Omega.{arith}
 use lib.ListN.{length, getD, take, drop, length-append}
 use lib.Seq.{drop-cons}
 use lib.Dec.{ltb}
-use lib.Bits.{bitAnd, bitOr, and-shr, and-self, and-le-l, and-le-r, or-add-and}
 use borrow.Author.Tests.{lt-ltb, le-ltb, ltb-true, ltb-false}
 use Rattle.rules.specs.declared.Answer.{Answer}
 use Rattle.rules.specs.Rules.{accepted, first}
 use Rattle.rules.proofs.Chain.{not-so, first-passed}
-use Rattle.field64.specs.Field.{p64}
 use Rattle.rows.specs.Rows.{firstBad, elementsFrom, elementsRule, Below}
 
 -- ---- rows whose elements are below n
@@ -68,6 +66,14 @@ pub none-bad : (p : ℕ) (xs : List ℕ) → Below p xs → firstBad p xs ≡ le
 none-bad p [] f = refl
 none-bad p (x ∷ xs) f = rw (lt-ltb x p (f .0)) (ap suc (none-bad p xs (f .1)))
 
+pub bad-fits : (p : ℕ) (xs : List ℕ) → firstBad p xs ≤ length xs
+bad-fits p [] = omega arith
+bad-fits p (x ∷ xs) = go (ltb x p) (bad-fits p xs)
+  where
+    go : (t : Bool) → firstBad p xs ≤ length xs → cond t (suc (firstBad p xs)) 0 ≤ suc (length xs)
+    go true h = omega arith
+    go false h = omega arith
+
 pub all-below : (p : ℕ) (xs : List ℕ) → length xs ≤ firstBad p xs → Below p xs
 all-below p [] g = tt
 all-below p (x ∷ xs) g = go (ltb x p) refl g (λ k. all-below p xs k)
@@ -81,7 +87,7 @@ left-cons : (t : Bool) (a b l : ℕ) → (b < l → a ≡ b) → cond t (suc b) 
 left-cons true a b l f h = ap suc (f (omega arith))
 left-cons false a b l f h = refl
 
-bad-left : (p : ℕ) (xs ys : List ℕ) → firstBad p xs < length xs → firstBad p (xs ++ ys) ≡ firstBad p xs
+pub bad-left : (p : ℕ) (xs ys : List ℕ) → firstBad p xs < length xs → firstBad p (xs ++ ys) ≡ firstBad p xs
 bad-left p [] ys h = absurd (omega arith)
 bad-left p (x ∷ xs) ys h = left-cons (ltb x p) (firstBad p (xs ++ ys)) (firstBad p xs) (length xs) (λ k. bad-left p xs ys k) h
 
@@ -89,7 +95,7 @@ right-cons : (t : Bool) (a b l n : ℕ) → (l ≤ b → a ≡ l + n) → suc l 
 right-cons true a b l n f h = omega (arith, f (omega arith))
 right-cons false a b l n f h = absurd (omega arith)
 
-bad-right : (p : ℕ) (xs ys : List ℕ) → length xs ≤ firstBad p xs → firstBad p (xs ++ ys) ≡ length xs + firstBad p ys
+pub bad-right : (p : ℕ) (xs ys : List ℕ) → length xs ≤ firstBad p xs → firstBad p (xs ++ ys) ≡ length xs + firstBad p ys
 bad-right p [] ys h = omega arith
 bad-right p (x ∷ xs) ys h = right-cons (ltb x p) (firstBad p (xs ++ ys)) (firstBad p xs) (length xs) (firstBad p ys) (λ k. bad-right p xs ys k) h
 
@@ -120,44 +126,3 @@ right-elements p k xs f = rw (le-ltb (firstBad p xs) (length xs) (omega (arith, 
 
 pub elements-below : (p k : ℕ) (xs : List ℕ) → elementsFrom p k xs .number ≡ 0 → Below p xs
 elements-below p k xs h = all-below p xs (ltb-false _ _ (not-so (ltb (firstBad p xs) (length xs)) 11 (k + firstBad p xs) h))
-
--- ---- in Field64: an element that is not below p wraps when 2 ^ 32 - 1 is added
-
-pub no-carry : (x s : ℕ) → x < 2 ^ 64 → s ≡ (x + 4294967295) % 2 ^ 64 → bitAnd x (18446744073709551615 - s) < 2 ^ 63 → x < p64
-no-carry x s h w k = go (ltb x p64) refl
-  where
-    go : (t : Bool) → ltb x p64 ≡ t → x < p64
-    go true e = ltb-true x p64 e
-    go false e =
-        let l : p64 ≤ x = ltb-false x p64 e in
-        let a : x / 2 ^ 63 ≡ 1 = omega arith in
-        let b : (18446744073709551615 - s) / 2 ^ 63 ≡ 1 = omega arith in
-        let o : bitAnd x (18446744073709551615 - s) / 2 ^ 63 ≡ bitAnd 1 1 = and-shr x _ 63 ∙ rw (a, b) in
-        absurd (omega (arith, o ∙ and-self 1))
-
--- and one below p does not
-pub no-carry-below : (x s : ℕ) → s ≡ (x + 4294967295) % 2 ^ 64 → x < p64 → bitAnd x (18446744073709551615 - s) < 2 ^ 63
-no-carry-below x s w h = go (ltb x (2 ^ 63)) refl
-  where
-    go : (t : Bool) → ltb x (2 ^ 63) ≡ t → bitAnd x (18446744073709551615 - s) < 2 ^ 63
-    go true e = omega (arith, ltb-true x _ e, and-le-l x (18446744073709551615 - s))
-    go false e =
-        let l : 2 ^ 63 ≤ x = ltb-false x _ e in
-        let b : 18446744073709551615 - s < 2 ^ 63 = omega arith in
-        omega (arith, and-le-r x (18446744073709551615 - s))
-
-pub or-left : (a b : ℕ) → a ≤ bitOr a b
-or-left a b = omega (arith, or-add-and a b, and-le-r a b)
-
-pub or-right : (a b : ℕ) → b ≤ bitOr a b
-or-right a b = omega (arith, or-add-and a b, and-le-l a b)
-
--- one element more
-pub below-next : (n : ℕ) (xs : List ℕ) (i : ℕ) → ((j : ℕ) → j < i → getD xs j 0 < n) → getD xs i 0 < n → (j : ℕ) → j < i + 1 → getD xs j 0 < n
-below-next n xs i f h j k = go (ltb j i) refl
-  where
-    go : (t : Bool) → ltb j i ≡ t → getD xs j 0 < n
-    go true e = f j (ltb-true j i e)
-    go false e =
-        let s : j ≡ i = omega (arith, ltb-false j i e) in
-        rw s h

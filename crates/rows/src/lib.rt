@@ -1,13 +1,16 @@
 // Internal: the rules that every call tests on its rows, and loops over rows. A function here asks
 // its caller for what it does not test itself.
 use rules::Answer;
+
+mod scan;
+
 ghost use mathlib.Core.Path.{_≡_};
 ghost use mathlib.Core.List.{_++_};
 ghost use Prim.Native.Nat.{_+_, _<_, _^_};
 ghost use lib.ListN.{length, replicate};
 ghost use Rattle.rules.specs.Rules.{first};
 ghost use Rattle.field64.specs.Field.{p64};
-ghost use Rattle.rows.specs.Rows.{rowRule, firstBad, elementsFrom, elementsRule, Below, addRows};
+ghost use Rattle.rows.specs.Rows.{rowRule, elementsFrom, elementsRule, Below, addRows};
 
 // Rule 7, of the row at a place.
 pub fn check_len(place: u64, len: usize, expected: u64) -> Answer
@@ -23,54 +26,12 @@ pub fn check_len(place: u64, len: usize, expected: u64) -> Answer
     }
 }
 
-// 2^63 or more just where an element is not below p: adding 2^32 - 1 to such an element wraps, and of the
-// two numbers only the element has its highest bit. The loop has no branch on the data, so that it
-// runs on vectors.
-fn carries(row: &[u64]) -> u64
-    ensures { λ r. ⌜ (r < 2 ^ 63 → Below p64 (now (row .entry))) ⌝ }
-    ensures { λ r. ⌜ (Below p64 (now (row .entry)) → r < 2 ^ 63) ⌝ }
-{
-    let mut seen: u64 = 0;
-    let mut i = 0;
-    while i < row.len() {
-        let x = row[i];
-        let sum = std::num::wrapping_add_u64(x, 0xffff_ffff);
-        seen = seen | (x & (u64::MAX - sum));
-        i += 1;
-    }
-    seen
-}
-
-// The index of the first element that is not below p, or the length where there is none.
-fn search(row: &[u64]) -> usize
-    ensures { λ r. ⌜ r ≡ firstBad p64 (now (row .entry)) ⌝ }
-{
-    let mut i = 0;
-    while i < row.len() {
-        if row[i] >= field64::P {
-            return i;
-        }
-        i += 1;
-    }
-    i
-}
-
-// The same: only a row with a carry is searched.
-fn first_bad(row: &[u64]) -> usize
-    ensures { λ r. ⌜ r ≡ firstBad p64 (now (row .entry)) ⌝ }
-{
-    if carries(row) < 1 << 63 {
-        return row.len();
-    }
-    search(row)
-}
-
 // Rule 12, of a row whose elements are counted from start.
 pub fn check_elements(row: &[u64], start: usize) -> Answer
     requires { ⌜ start + length (now row) < 2 ^ 64 ⌝ }
     ensures { λ r. ⌜ r ≡ elementsFrom p64 start (now (row .entry)) ⌝ }
 {
-    let bad = first_bad(row);
+    let bad = scan::first_bad(row);
     if bad < row.len() {
         Answer {
             number: rules::ELEMENT,

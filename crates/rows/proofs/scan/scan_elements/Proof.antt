@@ -1,10 +1,10 @@
--- `rows::first_bad` meets its contract. Assumes nothing.
+-- `rows::scan::scan_elements` meets its contract. Assumes nothing.
 use borrow.Author.Needs.{needs}
 use mathlib.Core.Path.{sym}
 use Rattle.field64.specs.Field.{p64}
 use Rattle.rows.proofs.Elements.{none-bad}
-use Rattle.rows.proofs.first_bad.Statement.{statement}
-use Rattle.rows.proofs.first_bad.Tie as tie
+use Rattle.rows.proofs.scan.scan_elements.Statement.{statement}
+use Rattle.rows.proofs.scan.scan_elements.Tie as tie
 
 carries-requires : tie.Need-carries-requires
 carries-requires c κs = search needs
@@ -20,5 +20,5 @@ search-requires c κs = search needs
 returns-2 : tie.Need-returns-2
 returns-2 c = search needs
 
-pub first-bad-spec : {M : Type 1} → statement M
-first-bad-spec = tie.close (tie.spec carries-requires returns search-requires returns-2)
+pub scan-elements-spec : {M : Type 1} → statement M
+scan-elements-spec = tie.close (tie.spec carries-requires returns search-requires returns-2)

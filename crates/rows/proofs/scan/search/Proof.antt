@@ -1,4 +1,4 @@
--- `rows::search` meets its contract. The invariant: the answer for the row is i and the answer for the rest. Assumes nothing.
+-- `rows::scan::search` meets its contract. The invariant: the answer for the row is i and the answer for the rest. Assumes nothing.
 use mathlib.Core.Path.{_≡_}
 use Prim.Native.Nat.{_+_, _-_, _≤_}
 use native.Mathlib.Omega.{arith}
@@ -8,8 +8,8 @@ use lib.ListN.{length, drop, drop-of-length-le}
 use Rattle.field64.specs.Field.{p64}
 use Rattle.rows.specs.Rows.{firstBad}
 use Rattle.rows.proofs.Elements.{bad-next, bad-here}
-use Rattle.rows.proofs.search.Statement.{statement}
-use Rattle.rows.proofs.search.Tie as tie
+use Rattle.rows.proofs.scan.search.Statement.{statement}
+use Rattle.rows.proofs.scan.search.Tie as tie
 
 abbrev Inv-loop : tie.InvT-loop
 Inv-loop row i₀ i = (i ≤ length row) × (firstBad p64 row ≡ i + firstBad p64 (drop i row))
