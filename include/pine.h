@@ -1,9 +1,9 @@
 /* PINE reports over Field64: the proved calls of libpine_c.a, for C11 and C++.
  *
- * Each call is the function of the same name in the Rattle crates doubles, params, wr_tests, encode, parts,
- * validity and vdaf, with the same contract: for ANY numbers and any bytes in its rows it ends, reads and
- * writes inside its rows only, and gives exactly what the definitions in crates/.../specs say, refusals
- * included. docs/C.md has the tables of rows and refusals, and how to link.
+ * Each call is the function of the same name in the Rattle crates doubles, params, wr_tests, encode,
+ * validity and vdaf, or locate_gradient and so on in parts, with the same contract: for ANY numbers and any
+ * bytes in its rows it ends, reads and writes inside its rows only, and gives exactly what the definitions in
+ * crates/.../specs say, refusals included. docs/C.md has the tables of rows and refusals, and how to link.
  *
  * Numbers. A field number is a uint64_t below p = 2^64 - 2^32 + 1. A row is a pointer and its length in
  * elements, in that order. Derive the lengths by pine_derive.
