@@ -33,28 +33,35 @@ fn check_part(param: PineParam, full: &[u64]) -> Answer
     row_1.or(rows::check_elements(full, 0))
 }
 
-fn part_at(answer: Answer, start: u64, len: u64) -> Part
-    ensures { λ r. ⌜ r ≡ partAt answer start len ⌝ }
-{
-    if answer.number != 0 {
-        return Part {
+impl Part {
+    // What stands beside a refusal.
+    fn none(answer: Answer) -> Part
+        ensures { λ r. ⌜ r ≡ record { answer = answer; start = 0; len = 0 } ⌝ }
+    {
+        Part {
             answer,
             start: 0,
             len: 0,
-        };
+        }
     }
-    Part { answer, start, len }
 }
 
-// The first clause of each place says where it is, the second which elements stand there. The derived
-// record is all 0 where the inputs are refused.
+// The first clause of each place says where it is, the second which elements stand there.
 
 pub fn locate_gradient(param: PineParam, full: &[u64]) -> Part
     ensures { λ r. ⌜ r ≡ partAt (inOrder (partRules Field64 param (now (full .entry)))) 0 (param .dimension) ⌝ }
     ensures { λ r. ⌜ named r (now (full .entry)) ≡ gradientPartOf Field64 param (now (full .entry)) ⌝ }
 {
     let answer = check_part(param, full);
-    part_at(answer, 0, param.dimension)
+    if answer.number != 0 {
+        return Part::none(answer);
+    }
+    let start = 0;
+    Part {
+        answer,
+        start,
+        len: param.dimension,
+    }
 }
 
 pub fn locate_checked(param: PineParam, full: &[u64]) -> Part
@@ -62,9 +69,15 @@ pub fn locate_checked(param: PineParam, full: &[u64]) -> Part
     ensures { λ r. ⌜ named r (now (full .entry)) ≡ checkedPartOf Field64 param (now (full .entry)) ⌝ }
 {
     let answer = check_part(param, full);
-    let derived = params::derive(param);
-    let pine = derived.pine;
-    part_at(answer, param.dimension, pine.bit_checked_len)
+    if answer.number != 0 {
+        return Part::none(answer);
+    }
+    let pine = Pine::new(param);
+    Part {
+        answer,
+        start: pine.dimension,
+        len: pine.bit_checked_len,
+    }
 }
 
 pub fn locate_results(param: PineParam, full: &[u64]) -> Part
@@ -72,9 +85,15 @@ pub fn locate_results(param: PineParam, full: &[u64]) -> Part
     ensures { λ r. ⌜ named r (now (full .entry)) ≡ resultsPartOf Field64 param (now (full .entry)) ⌝ }
 {
     let answer = check_part(param, full);
-    let derived = params::derive(param);
-    let pine = derived.pine;
-    part_at(answer, pine.encoded_input_len, param.num_wr_tests)
+    if answer.number != 0 {
+        return Part::none(answer);
+    }
+    let pine = Pine::new(param);
+    Part {
+        answer,
+        start: pine.encoded_input_len,
+        len: pine.num_wr_tests,
+    }
 }
 
 // The part itself: number and place go into two lent numbers, and a refused one is empty.

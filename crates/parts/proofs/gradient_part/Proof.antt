@@ -1,7 +1,9 @@
 -- `parts::gradient_part` meets its contract. Assumes nothing.
 use mathlib.Core.Path.{_∙_}
+use native.Mathlib.Omega.{arith}
 use borrow.Author.Needs.{needs}
-use Rattle.parts.proofs.Places.{gradient-inside}
+use Rattle.pine.specs.Record.{inputLen, encodedInputLen}
+use Rattle.parts.proofs.Places.{inside}
 use Rattle.parts.proofs.gradient_part.Statement.{statement}
 use Rattle.parts.proofs.gradient_part.Tie as tie
 
@@ -9,7 +11,11 @@ locate-gradient-requires : tie.Need-locate-gradient-requires
 locate-gradient-requires c κs = search needs
 
 hand-back-requires : tie.Need-hand-back-requires
-hand-back-requires c κs = gradient-inside _ _ _ (c .before .before .locate-gradient .ensures .0)
+unfolding inputLen encodedInputLen
+hand-back-requires c κs =
+    let l = c .before .before in
+    let a = l .before .before .args in
+    inside (a .param) (a .full .now) 0 (a .param .dimension) (omega arith) _ (l .locate-gradient .ensures .0)
 
 returns : tie.Need-returns
 returns c = c .hand-back .ensures ∙ c .before .before .before .locate-gradient .ensures .1

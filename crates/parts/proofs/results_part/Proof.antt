@@ -1,7 +1,9 @@
 -- `parts::results_part` meets its contract. Assumes nothing.
 use mathlib.Core.Path.{_∙_}
+use native.Mathlib.Omega.{arith}
 use borrow.Author.Needs.{needs}
-use Rattle.parts.proofs.Places.{results-inside}
+use Rattle.pine.specs.Record.{encodedInputLen, inputLen}
+use Rattle.parts.proofs.Places.{inside}
 use Rattle.parts.proofs.results_part.Statement.{statement}
 use Rattle.parts.proofs.results_part.Tie as tie
 
@@ -9,7 +11,11 @@ locate-results-requires : tie.Need-locate-results-requires
 locate-results-requires c κs = search needs
 
 hand-back-requires : tie.Need-hand-back-requires
-hand-back-requires c κs = results-inside _ _ _ (c .before .before .locate-results .ensures .0)
+unfolding inputLen
+hand-back-requires c κs =
+    let l = c .before .before in
+    let a = l .before .before .args in
+    inside (a .param) (a .full .now) (encodedInputLen (a .param)) (a .param .«num_wr_tests») (omega arith) _ (l .locate-results .ensures .0)
 
 returns : tie.Need-returns
 returns c = c .hand-back .ensures ∙ c .before .before .before .locate-results .ensures .1
