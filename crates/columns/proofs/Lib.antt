@@ -1,3 +1,3 @@
--- What the proofs of the functions cite: `Tables` of the two tables of a column, `Swapped` of the tests taken column by column.
-pub mod Tables
+-- What the proofs of the functions cite: `Swapped` of the tests taken by groups of bytes, `Tables` of a group's tables.
 pub mod Swapped
+mod Tables

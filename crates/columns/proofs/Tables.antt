@@ -1,17 +1,24 @@
--- The tables of what is taken off a result: an entry undoes what two pairs make of two coordinates, so that a byte's two entries taken off are its column added. Over any modulus p. Assumes nothing.
+-- The tables of what is taken off a result: an entry undoes what two pairs make of two coordinates, so that the entries of a test's bytes taken off are what these bytes add. Over any modulus p. Assumes nothing.
 use mathlib.Core.Path.{_≡_, refl, sym, ap, _∙_}
+use mathlib.Core.Bool.{Bool, true, false}
 use mathlib.Core.List.{List, [], _∷_}
-use Prim.Native.Nat.{ℕ, zero, suc, _+_, _*_, _-_, _/_, _%_, _≤_, _<_}
-use native.Mathlib.Nat.{mod-self, mod-lt, zero-mod, mod-eq-of-lt, div-div-eq-div-mul, suc-mul, mul-le-mul-right}
+use Prim.Native.Nat.{ℕ, zero, suc, _+_, _*_, _-_, _/_, _%_, _^_, _≤_, _<_}
+use native.Mathlib.Nat.{mod-self, mod-lt, zero-mod, mod-eq-of-lt, add-mod-mod, div-div-eq-div-mul, suc-mul, mul-le-mul-right, le-of-lt}
+use native.Mathlib.Numerals.{add-one}
 use native.Mathlib.Omega.{arith}
-use lib.ListN.{length, getD, drop}
-use lib.Seq.{getD-drop}
+use lib.ListN.{length, getD, take, drop, set, length-take}
+use lib.Seq.{getD-drop, drop-drop, drop-cons, getD-set-same, getD-set-other}
+use lib.Dec.{ltb}
 use lib.Arith.{mod-mul}
+use borrow.Author.Tests.{ltb-true, ltb-false}
 use Rattle.field64.specs.Field.{addMod, subMod, negMod}
 use Rattle.field64.specs.Sums.{evaluate}
 use Rattle.field64.proofs.Modular.{modular, add-both, sub-is}
-use Rattle.flp.specs.Tests.{weighed}
-use Rattle.columns.specs.Columns.{column, addColumn, Undoes, lessOf, lessColumn}
+use Rattle.rows.specs.Rows.{Below}
+use Rattle.rows.proofs.Elements.{below-take, below-drop}
+use Rattle.flp.specs.Tests.{pairs, weighed, weigh, testOf}
+use Rattle.columns.specs.Columns.{Entry, Undoes, Tables, entriesAt, entriesOf, lessEntries, lessGroup, addGroup}
+use Rattle.columns.proofs.Swapped.{column, first-column}
 
 -- ---- the entries
 
@@ -80,11 +87,7 @@ module _ (p a b na nb pp pm mp mm : ℕ) (ha : a < p) (hb : b < p) where
     entry (suc (suc (suc (suc (suc (suc (suc (suc (suc (suc (suc (suc (suc (suc (suc (suc k)))))))))))))))) h = absurd (omega arith)
 
     pub table-law : Undoes p a b entries
-    table-law k h =
-        record {
-          low = rw (entry k h) (mod-lt (getD (one a na) (k % 4) 0 + getD (one b nb) (k / 4) 0) positive);
-          undoes = both p (getD (one a na) (k % 4) 0) (getD (one b nb) (k / 4) 0) (weighed p (k % 4) a) (weighed p (k / 4) b) _ (one-undoes p a na ha ea (k % 4) (omega arith)) (one-undoes p b nb hb eb (k / 4) (omega arith)) (entry k h);
-        }
+    table-law k h = both p (getD (one a na) (k % 4) 0) (getD (one b nb) (k / 4) 0) (weighed p (k % 4) a) (weighed p (k / 4) b) _ (one-undoes p a na ha ea (k % 4) (omega arith)) (one-undoes p b nb hb eb (k / 4) (omega arith)) (entry k h)
 
 -- ---- a byte
 
@@ -103,47 +106,130 @@ undone p r e w s h z =
 halves : (b : ℕ) → b % 16 ≡ b / 4 % 4 * 4 + b % 4
 halves b = mod-mul b {m = 4} {c = 4} (omega arith) (omega arith)
 
-module _ (p a b c d : ℕ) (low high : List ℕ) (positive : 0 < p) (f : Undoes p a b low) (g : Undoes p c d high) where
-  byte-law : (byte r : ℕ) → byte < 256 → lessOf p low high byte r ≡ addMod p r (column p byte a b c d)
+-- two sums that are undone
+undone-both : (p a b w z : ℕ) → (a + w) % p ≡ 0 → (b + z) % p ≡ 0 → (a + b + (w + z)) % p ≡ 0
+undone-both p a b w z f g = ap (λ (n : ℕ). n % p) (swap a b w z) ∙ add-both p (a + w) 0 (b + z) 0 (f ∙ sym (zero-mod p)) (g ∙ sym (zero-mod p)) ∙ zero-mod p
+  where
+    swap : (a b w z : ℕ) → a + b + (w + z) ≡ (a + w) + (b + z)
+    swap a b w z = omega arith
+
+module _ (p a b c d : ℕ) (t : List ℕ) (start : ℕ) (f : (k : ℕ) → k < 16 → Entry p a b k (getD t (start + k) 0)) (g : (k : ℕ) → k < 16 → Entry p c d k (getD t (start + 16 + k) 0)) where
+  byte-law : (byte : ℕ) → byte < 256 → (entriesAt t start byte + column p byte a b c d) % p ≡ 0
   unfolding column evaluate
-  byte-law byte r h =
-      let lo = f (byte % 16) (omega arith) in
-      let hi = g (byte / 16) (omega arith) in
+  byte-law byte h =
       let q₀ : byte % 16 % 4 ≡ byte % 4 = omega (arith, halves byte) in
       let q₁ : byte % 16 / 4 ≡ byte / 4 % 4 = omega (arith, halves byte) in
       let q₃ : byte / 16 / 4 ≡ byte / 64 % 4 = div-div-eq-div-mul byte 16 4 ∙ sym (mod-eq-of-lt (omega arith)) in
-      let w₀ : ℕ = weighed p (byte % 16 % 4) a in
-      let w₁ : ℕ = weighed p (byte % 16 / 4) b in
-      let w₂ : ℕ = weighed p (byte / 16 % 4) c in
-      let w₃ : ℕ = weighed p (byte / 16 / 4) d in
-      undone p (subMod p r (getD low (byte % 16) 0)) (getD high (byte / 16) 0) (w₂ + w₃) positive (omega (arith, hi .low)) (hi .undoes)
-      ∙ ap (λ (n : ℕ). addMod p n (w₂ + w₃)) (undone p r (getD low (byte % 16) 0) (w₀ + w₁) positive (omega (arith, lo .low)) (lo .undoes))
-      ∙ (λ i. addMod p (addMod p r (weighed p (q₀ i) a + weighed p (q₁ i) b)) (w₂ + weighed p (q₃ i) d))
-      ∙ in-one r (weighed p (byte % 4) a) (weighed p (byte / 4 % 4) b) w₂ (weighed p (byte / 64 % 4) d)
+      let e = undone-both p (getD t (start + byte % 16) 0) (getD t (start + 16 + byte / 16) 0) _ _ (f (byte % 16) (omega arith)) (g (byte / 16) (omega arith)) in
+      in-one (entriesAt t start byte) (weighed p (byte % 4) a) (weighed p (byte / 4 % 4) b) (weighed p (byte / 16 % 4) c) (weighed p (byte / 64 % 4) d)
+      ∙ (λ i. (entriesAt t start byte + (weighed p (sym q₀ i) a + weighed p (sym q₁ i) b + (weighed p (byte / 16 % 4) c + weighed p (sym q₃ i) d))) % p)
+      ∙ e
     where
-      in-one : (r w x y z : ℕ) → addMod p (addMod p r (w + x)) (y + z) ≡ addMod p r (addMod p w ((1 * addMod p x ((1 * addMod p y ((1 * addMod p z ((1 * 0) % p)) % p)) % p)) % p))
+      in-one : (r w x y z : ℕ) → (r + addMod p w ((1 * addMod p x ((1 * addMod p y ((1 * addMod p z ((1 * 0) % p)) % p)) % p)) % p)) % p ≡ (r + (w + x + (y + z))) % p
       in-one r w x y z = simp modular (ap (λ (n : ℕ). n % p) (omega arith))
 
-  -- a column of all the tests
-  pub column-law : (per j : ℕ) (s row : List ℕ) → ((k : ℕ) → getD s k 0 < 256) → lessColumn p low high per j s row ≡ addColumn p per j a b c d s row
-  column-law per j s [] m = refl
-  column-law per j s (r ∷ row) m = (λ i. byte-law (getD s j 0) r (m j) i ∷ column-law per j (drop per s) row (λ k. rw (getD-drop per s k 0) (m (per + k))) i)
+-- ---- the bytes of a test, and of all tests
 
--- ---- the loop over the tests
+module _ (p count : ℕ) (xs t : List ℕ) (positive : 0 < p) (f : Tables p count xs t) where
+  -- table i, with its places named otherwise
+  table-at : (i a b s : ℕ) → 2 * i ≡ a → 2 * i + 1 ≡ b → 16 * i ≡ s → i < count → (k : ℕ) → k < 16 → Entry p (getD xs a 0) (getD xs b 0) k (getD t (s + k) 0)
+  table-at i a b s ea eb es h k g = rw (← ea, ← eb, ← es) (f i h k g)
 
--- the byte of test t lies within the stream
-pub byte-inside : (t T per j n : ℕ) → t < T → j < per → T * per ≤ n → t * per + j < n
-byte-inside t T per j n h g l = omega (arith, suc-mul t per, mul-le-mul-right per h)
+  bytes-law : (bytes : List ℕ) (k start : ℕ) → start ≡ 32 * k → 2 * (k + length bytes) ≤ count → Below 256 bytes → (entriesOf t start bytes + testOf p (drop (4 * k) xs) bytes) % p ≡ 0
+  unfolding testOf weigh pairs evaluate
+  bytes-law [] k start e h g = zero-mod p
+  bytes-law (x ∷ bytes) k start e h g =
+      let lo = table-at (2 * k) (4 * k + 0) (4 * k + 1) start (omega arith) (omega arith) (omega arith) (omega arith) in
+      let hi = table-at (2 * k + 1) (4 * k + 2) (4 * k + 3) (start + 16) (omega arith) (omega arith) (omega arith) (omega arith) in
+      let c : ℕ = column p x (getD (drop (4 * k) xs) 0 0) (getD (drop (4 * k) xs) 1 0) (getD (drop (4 * k) xs) 2 0) (getD (drop (4 * k) xs) 3 0) in
+      let same : column p x (getD xs (4 * k + 0) 0) (getD xs (4 * k + 1) 0) (getD xs (4 * k + 2) 0) (getD xs (4 * k + 3) 0) ≡ c = λ i. column p x (sym (getD-drop (4 * k) xs 0 0) i) (sym (getD-drop (4 * k) xs 1 0) i) (sym (getD-drop (4 * k) xs 2 0) i) (sym (getD-drop (4 * k) xs 3 0) i) in
+      let one : (entriesAt t start x + c) % p ≡ 0 = ap (λ (n : ℕ). (entriesAt t start x + n) % p) (sym same) ∙ byte-law p _ _ _ _ t start lo hi x (g .0) in
+      let on : 4 * (k + 1) ≡ 4 * k + 4 = omega arith in
+      let far : drop (4 * (k + 1)) xs ≡ drop 4 (drop (4 * k) xs) = ap (λ (n : ℕ). drop n xs) on ∙ sym (drop-drop 4 (4 * k) xs) in
+      let z : ℕ = testOf p (drop 4 (drop (4 * k) xs)) bytes in
+      let rest : (entriesOf t (start + 32) bytes + z) % p ≡ 0 = ap (λ (ys : List ℕ). (entriesOf t (start + 32) bytes + testOf p ys bytes) % p) (sym far) ∙ bytes-law bytes (k + 1) (start + 32) (omega arith) (omega arith) (g .1) in
+      ap (λ (n : ℕ). (entriesAt t start x + entriesOf t (start + 32) bytes + n) % p) (first-column p x bytes (drop (4 * k) xs))
+      ∙ add-mod-mod (entriesAt t start x + entriesOf t (start + 32) bytes) (c + z) p
+      ∙ undone-both p (entriesAt t start x) (entriesOf t (start + 32) bytes) c z one rest
 
--- a column, by its elements
-module _ (p : ℕ) (low high : List ℕ) (per j : ℕ) where
-  pub length-less : (s row : List ℕ) → length (lessColumn p low high per j s row) ≡ length row
+  -- a group of all the tests
+  pub group-law : (per j n : ℕ) (s row : List ℕ) → 2 * n ≤ count → Below 256 s → lessGroup p t per j n s row ≡ addGroup p per j n xs s row
+  group-law per j n s [] h g = refl
+  group-law per j n s (r ∷ row) h g =
+      let l : 2 * (0 + length (take n (drop j s))) ≤ count = rw (length-take n (drop j s)) (omega arith) in
+      let w : ℕ = testOf p xs (take n (drop j s)) in
+      let z : (entriesOf t 0 (take n (drop j s)) + w) % p ≡ 0 = bytes-law (take n (drop j s)) 0 0 refl l (below-take 256 n (drop j s) (below-drop 256 j s g)) in
+      let one : lessEntries p t (take n (drop j s)) r ≡ addMod p r w = undone p r (entriesOf t 0 (take n (drop j s)) % p) w positive (le-of-lt (mod-lt _ positive)) (simp modular z) in
+      (λ i. one i ∷ group-law per j n (drop per s) row h (below-drop 256 per s g) i)
+
+-- ---- the loops
+
+-- k entries were written from start on, and what stood before start is as it was
+abbrev pub Written : (t t₀ entries : List ℕ) (start k : ℕ) → Type 0
+Written t t₀ entries start k = ((j : ℕ) → j < k → getD t (start + j) 0 ≡ getD entries j 0) × ((i : ℕ) → i < start → getD t i 0 ≡ getD t₀ i 0)
+
+pub written-next : (t t₀ entries : List ℕ) (start k : ℕ) → start + k < length t → Written t t₀ entries start k → Written (set t (start + k) (getD entries k 0)) t₀ entries start (k + 1)
+written-next t t₀ entries start k h w = (λ j g. go j g (ltb j k) refl, λ i g. getD-set-other t (start + k) i (getD entries k 0) 0 (λ e. absurd (omega (arith, e))) ∙ w .1 i g)
+  where
+    go : (j : ℕ) → j < k + 1 → (b : Bool) → ltb j k ≡ b → getD (set t (start + k) (getD entries k 0)) (start + j) 0 ≡ getD entries j 0
+    go j g true e =
+        let l : j < k = ltb-true j k e in
+        getD-set-other t (start + k) (start + j) (getD entries k 0) 0 (λ q. absurd (omega (arith, q, l))) ∙ w .0 j l
+    go j g false e =
+        let q : j ≡ k = omega (arith, ltb-false j k e) in
+        rw q (getD-set-same t (start + k) (getD entries k 0) 0 h)
+
+-- one table more
+pub tables-next : (p i : ℕ) (xs t t₀ : List ℕ) (a b : ℕ) → a ≡ getD xs (2 * i) 0 → b ≡ getD xs (2 * i + 1) 0 → ((k : ℕ) → k < 16 → Entry p a b k (getD t (16 * i + k) 0)) → ((n : ℕ) → n < 16 * i → getD t n 0 ≡ getD t₀ n 0) → Tables p i xs t₀ → Tables p (i + 1) xs t
+tables-next p i xs t t₀ a b ea eb f g w m h k l = go (ltb m i) refl
+  where
+    go : (c : Bool) → ltb m i ≡ c → Entry p (getD xs (2 * m) 0) (getD xs (2 * m + 1) 0) k (getD t (16 * m + k) 0)
+    go true e =
+        let q : m < i = ltb-true m i e in
+        rw (g (16 * m + k) (omega (arith, q))) (w m q k l)
+    go false e =
+        let q : m ≡ i = omega (arith, ltb-false m i e) in
+        rw (q, ← ea, ← eb) (f k l)
+
+-- the bytes of test i lie within the stream
+pub bytes-inside : (i T per j n l : ℕ) → i < T → j + n ≤ per → T * per ≤ l → i * per + j + n ≤ l
+bytes-inside i T per j n l h g m = omega (arith, suc-mul i per, mul-le-mul-right per h)
+
+-- the next of n bytes, two carries for each
+pub step-le : (k n : ℕ) → k < n → k + 1 ≤ n
+step-le k n h = omega arith
+
+pub step-fits : (k n : ℕ) → k < n → n < 2 ^ 64 → k + 1 < 2 ^ 64
+step-fits k n h l = omega arith
+
+pub step-less : (k n : ℕ) → k < n → n - (k + 1) < n - k
+step-less k n h = omega arith
+
+pub step-carries : (k h h′ : ℕ) → h ≤ 2 * k → h′ ≤ h + 2 → h′ ≤ 2 * (k + 1)
+step-carries k h h′ e f = omega arith
+
+-- byte k of a test, all being the entries of all its bytes
+pub bytes-next : (t bytes : List ℕ) (k all s s′ : ℕ) → k < length bytes → s + entriesOf t (32 * k) (drop k bytes) ≡ all → s′ ≡ s + entriesAt t (32 * k) (getD bytes k 0) → s′ + entriesOf t (32 * (k + 1)) (drop (k + 1) bytes) ≡ all
+bytes-next t bytes k all s s′ h e f =
+    let d : drop k bytes ≡ getD bytes k 0 ∷ drop (k + 1) bytes = rw (add-one, drop-cons bytes k 0) in
+    let on : 32 * (k + 1) ≡ 32 * k + 32 = omega arith in
+    ap (λ (n : ℕ). s′ + entriesOf t n (drop (k + 1) bytes)) on ∙ rw f (joined s (entriesAt t (32 * k) (getD bytes k 0)) (entriesOf t (32 * k + 32) (drop (k + 1) bytes))) ∙ ap (λ (xs : List ℕ). s + entriesOf t (32 * k) xs) (sym d) ∙ e
+  where
+    joined : (s a r : ℕ) → s + a + r ≡ s + (a + r)
+    joined s a r = omega arith
+
+-- a group, by its elements
+module _ (p : ℕ) (t : List ℕ) (per j n : ℕ) where
+  pub length-less : (s row : List ℕ) → length (lessGroup p t per j n s row) ≡ length row
   length-less s [] = refl
   length-less s (r ∷ row) = ap suc (length-less (drop per s) row)
 
-  pub getD-less : (s row : List ℕ) (i : ℕ) → i < length row → getD (lessColumn p low high per j s row) i 0 ≡ lessOf p low high (getD s (i * per + j) 0) (getD row i 0)
+  pub getD-less : (s row : List ℕ) (i : ℕ) → i < length row → getD (lessGroup p t per j n s row) i 0 ≡ lessEntries p t (take n (drop (i * per + j) s)) (getD row i 0)
   getD-less s [] i h = absurd (omega arith)
-  getD-less s (r ∷ row) zero h = ap (λ (n : ℕ). lessOf p low high (getD s n 0) r) (omega arith)
+  getD-less s (r ∷ row) zero h =
+      let on : j ≡ 0 * per + j = omega arith in
+      ap (λ (k : ℕ). lessEntries p t (take n (drop k s)) r) on
   getD-less s (r ∷ row) (suc i) h =
+      let on : per + (i * per + j) ≡ suc i * per + j = omega (arith, suc-mul i per) in
       getD-less (drop per s) row i (omega arith)
-      ∙ ap (λ (n : ℕ). lessOf p low high n (getD row i 0)) (getD-drop per s (i * per + j) 0 ∙ ap (λ (n : ℕ). getD s n 0) (omega (arith, suc-mul i per)))
+      ∙ ap (λ (bytes : List ℕ). lessEntries p t (take n bytes) (getD row i 0)) (drop-drop (i * per + j) per s ∙ ap (λ (k : ℕ). drop k s) on)

@@ -1,39 +1,48 @@
--- What the inner functions of the tests give. They take the tests by columns: byte j of every test, then the next. No public contract cites these. Assumes nothing.
+-- What the inner functions of the tests give. They take the tests by groups of columns: some bytes of every test, then the next. No public contract cites these. Assumes nothing.
 use mathlib.Core.Path.{_≡_}
-use Prim.Native.Nat.{ℕ, _+_, _/_, _%_, _<_}
+use Prim.Native.Nat.{ℕ, _+_, _*_, _/_, _%_, _<_, min}
 use mathlib.Core.List.{List, [], _∷_}
-use lib.ListN.{getD, drop}
+use lib.ListN.{getD, take, drop}
 use Rattle.field64.specs.Field.{addMod, subMod}
-use Rattle.field64.specs.Sums.{total}
-use Rattle.flp.specs.Tests.{weighed}
+use Rattle.flp.specs.Tests.{weighed, testOf}
+use Rattle.columns.specs.declared.Group.{Group}
 
--- what a byte adds for four coordinates
-unfoldable pub column : (p byte a b c d : ℕ) → ℕ
-column p byte a b c d = total p (weighed p (byte % 4) a ∷ weighed p (byte / 4 % 4) b ∷ weighed p (byte / 16 % 4) c ∷ weighed p (byte / 64 % 4) d ∷ [])
+-- each result with what n bytes of its test, from byte j on, add for the coordinates xs
+abbrev pub addGroup : (p per j n : ℕ) (xs stream results : List ℕ) → List ℕ
+addGroup p per j n xs stream [] = []
+addGroup p per j n xs stream (r ∷ rs) = addMod p r (testOf p xs (take n (drop j stream))) ∷ addGroup p per j n xs (drop per stream) rs
 
--- each result with what byte j of its test adds
-abbrev pub addColumn : (p per j a b c d : ℕ) (stream results : List ℕ) → List ℕ
-addColumn p per j a b c d stream [] = []
-addColumn p per j a b c d stream (r ∷ rs) = addMod p r (column p (getD stream j 0) a b c d) ∷ addColumn p per j a b c d (drop per stream) rs
+-- the group from byte j on: up to eight bytes, and the coordinates for them, as many as there are
+abbrev pub groupFrom : (j per d : ℕ) → Group
+groupFrom j per d = record { end = min (j + 8) per; first = min (4 * j) d; last = min (4 * min (j + 8) per) d }
 
 -- ---- by tables of what is taken off
 
 -- entry k undoes what the pairs k % 4 and k / 4 make of a and b
-pub record Entry (p a b k e : ℕ) : Type 0 where
-  pub low : e < p
-  pub undoes : (e + (weighed p (k % 4) a + weighed p (k / 4) b)) % p ≡ 0
+abbrev pub Entry : (p a b k e : ℕ) → Type 0
+Entry p a b k e = (e + (weighed p (k % 4) a + weighed p (k / 4) b)) % p ≡ 0
 
 abbrev pub Undoes : (p a b : ℕ) (table : List ℕ) → Type 0
 Undoes p a b t = (k : ℕ) → k < 16 → Entry p a b k (getD t k 0)
 
-abbrev pub Small : (p : ℕ) (table : List ℕ) → Type 0
-Small p t = (k : ℕ) → k < 16 → getD t k 0 < p
+-- table i, of 16 entries each, is that of the coordinates 2i and 2i + 1, one past the end counting as 0
+abbrev pub Tables : (p count : ℕ) (xs tables : List ℕ) → Type 0
+Tables p count xs t = (i : ℕ) → i < count → (k : ℕ) → k < 16 → Entry p (getD xs (2 * i) 0) (getD xs (2 * i + 1) 0) k (getD t (16 * i + k) 0)
 
--- r less the entries of the two halves of a byte
-abbrev pub lessOf : (p : ℕ) (low high : List ℕ) (byte r : ℕ) → ℕ
-lessOf p low high byte r = subMod p (subMod p r (getD low (byte % 16) 0)) (getD high (byte / 16) 0)
+-- the entries of the two halves of a byte, in the two tables from start on, added
+abbrev pub entriesAt : (tables : List ℕ) (start byte : ℕ) → ℕ
+entriesAt t start byte = getD t (start + byte % 16) 0 + getD t (start + 16 + byte / 16) 0
 
--- each result less those of byte j of its test
-abbrev pub lessColumn : (p : ℕ) (low high : List ℕ) (per j : ℕ) (stream results : List ℕ) → List ℕ
-lessColumn p low high per j stream [] = []
-lessColumn p low high per j stream (r ∷ rs) = lessOf p low high (getD stream j 0) r ∷ lessColumn p low high per j (drop per stream) rs
+-- those of bytes, each in the next two tables
+abbrev pub entriesOf : (tables : List ℕ) (start : ℕ) (bytes : List ℕ) → ℕ
+entriesOf t start [] = 0
+entriesOf t start (b ∷ bs) = entriesAt t start b + entriesOf t (start + 32) bs
+
+-- r less the entries of the bytes of a test
+abbrev pub lessEntries : (p : ℕ) (tables bytes : List ℕ) (r : ℕ) → ℕ
+lessEntries p t bytes r = subMod p r (entriesOf t 0 bytes % p)
+
+-- each result less those of n bytes of its test, from byte j on
+abbrev pub lessGroup : (p : ℕ) (tables : List ℕ) (per j n : ℕ) (stream results : List ℕ) → List ℕ
+lessGroup p t per j n stream [] = []
+lessGroup p t per j n stream (r ∷ rs) = lessEntries p t (take n (drop j stream)) r ∷ lessGroup p t per j n (drop per stream) rs

@@ -13,7 +13,7 @@ ghost use Rattle.flp.specs.Encode.{elements, success, testBits};
 ghost use Rattle.measurement.specs.Parts.{Usable, checkedOf};
 
 // Writes the gradient's elements over a row of as many.
-fn write_elements(gradient: &[f64], scale: f64, frac_bits: u64, row: &mut [u64])
+pub fn write_elements(gradient: &[f64], scale: f64, frac_bits: u64, row: &mut [u64])
     requires { ⌜ Usable (now gradient) ⌝ }
     requires { ⌜ scale ≡ power «frac_bits» ⌝ }
     requires { ⌜ length (now row) ≡ length (now gradient) ⌝ }

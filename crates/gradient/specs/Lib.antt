@@ -1,2 +1,0 @@
--- What the inner functions of encoding give.
-pub mod Squares
