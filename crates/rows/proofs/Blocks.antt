@@ -12,7 +12,7 @@ use borrow.Author.Tests.{ltb-true, ltb-false}
 use Rattle.field64.specs.Field.{p64}
 use Rattle.rows.specs.Rows.{firstBad, Below}
 use Rattle.rows.specs.Joined.{orRows}
-use Rattle.rows.proofs.Elements.{below-all, below-at, below-append, bad-left, bad-right, none-bad, all-below}
+use Rattle.rows.proofs.Elements.{below-all, below-at, below-append, bad-left, bad-right}
 
 -- ---- in Field64: an element that is not below p wraps when 2 ^ 32 - 1 is added
 

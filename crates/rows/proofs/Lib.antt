@@ -1,6 +1,6 @@
 -- Laws of rows: `Lengths` of rule 7, `Elements` of rule 12, `Blocks` of how it is tested, `Added` of rows added, `Walk` of loops in place.
 pub mod Lengths
 pub mod Elements
-mod Blocks
+pub mod Blocks
 pub mod Added
 pub mod Walk
