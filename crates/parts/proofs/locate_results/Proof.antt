@@ -1,11 +1,10 @@
 -- `parts::locate_results` meets its contract. Assumes nothing.
-use mathlib.Core.Path.{sym, ap, _∙_}
+use mathlib.Core.Path.{ap}
 use borrow.Author.Needs.{needs}
-use Rattle.rules.specs.declared.Answer.{Answer}
 use Rattle.pine.specs.declared.record.Pine.{Pine}
 use Rattle.pine.specs.Record.{encodedInputLen, pineOf}
 use Rattle.flp.specs.Circuits.{resultsPartOf, resultsPart}
-use Rattle.parts.proofs.Vectors.{part-met}
+use Rattle.parts.proofs.Vectors.{inputs-met}
 use Rattle.parts.proofs.Places.{placed-none, placed}
 use Rattle.parts.proofs.locate_results.Statement.{statement}
 use Rattle.parts.proofs.locate_results.Tie as tie
@@ -24,10 +23,7 @@ returns c =
     placed-none (a .param) (a .full .now) (encodedInputLen (a .param)) (a .param .«num_wr_tests») _ _ (b .check-part .ensures) (c .before .if1 .taken) (c .none .ensures)
 
 new-requires : tie.Need-new-requires
-new-requires c κs =
-    let b = c .before .before in
-    let a = b .before .before .args in
-    part-met (a .param) (a .full .now) (ap (λ (x : Answer). x .number) (sym (b .check-part .ensures)) ∙ c .if1 .left) .inputs
+new-requires c κs = inputs-met _ _ _ (c .before .before .check-part .ensures) (c .if1 .left)
 
 returns-2 : tie.Need-returns-2
 unfolding resultsPartOf resultsPart pineOf
