@@ -13,6 +13,7 @@ use Rattle.pine.specs.Record.{halvings, digits, sqNormBound, sqNormBits, wrTest
 use Rattle.flp.specs.Bits.{bits, groups}
 use Rattle.flp.specs.Tests.{pairs, weighed, weigh, testOf, testsOf}
 use Rattle.flp.specs.Encode.{elements, sqNorm, testBits, resultsOf, measurementOf, coordinatesRule, rangeRule, encodeRules, encodeOf}
+use Rattle.vdaf.specs.Aggregates.{accumulateAnswer, accumulateOf}
 use Rattle.correctness.specs.Table.{Table, double, element}
 
 zero-at : (f : ℕ) → f ≤ 30 → coordinateOf p64 (double 0x8000_0000_0000_0000) f ≡ element 0
@@ -20,7 +21,7 @@ unfolding coordinateOf ofBits unusable doubles.element floorOf floorDiv clamp mo
 zero-at f h = simp (le-ltb 30 f h, zero-mul)
 
 pub table : Table
-unfolding coordinateOf decodedOf ofBits unusable doubles.element floorOf floorDiv clamp modP centred decoded ofInt neg div encodeOf encodeRules measurementOf resultsOf coordinatesRule rangeRule elements sqNorm testBits bits evaluate groups pairs weighed weigh testOf testsOf halvings digits sqNormBound sqNormBits wrTestBound wrTestBits bitCheckedLen encodedInputLen paramAnswer paramRules
+unfolding coordinateOf decodedOf ofBits unusable doubles.element floorOf floorDiv clamp modP centred decoded ofInt neg div encodeOf encodeRules measurementOf resultsOf coordinatesRule rangeRule elements sqNorm testBits bits evaluate groups pairs weighed weigh testOf testsOf halvings digits sqNormBound sqNormBits wrTestBound wrTestBits bitCheckedLen encodedInputLen paramAnswer paramRules accumulateOf accumulateAnswer
 table = record {
   minus-quarter = refl;
   three-quarters = refl;
@@ -39,4 +40,7 @@ table = record {
   wraps-v = refl;
   wraps-b = refl;
   far = refl;
+  later-test = refl;
+  later-coordinate = refl;
+  second-row = refl;
 }

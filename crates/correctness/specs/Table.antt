@@ -1,4 +1,4 @@
--- The worked examples of document 01, "Bench rows", that are marked P, over the definitions that the contracts cite. A double is given by its bit pattern. Assumes nothing.
+-- The worked examples of document 01, "Bench rows", that are marked P, and three rows at places other than 0, over the definitions that the contracts cite. A double is given by its bit pattern. Assumes nothing.
 use Prim.Native.Nat.{ℕ, _+_, _-_, _/_, _^_, _≤_}
 use mathlib.Core.Path.{_≡_}
 use mathlib.Core.List.{[], _∷_}
@@ -13,7 +13,9 @@ use Rattle.field64.specs.Sums.{number}
 use Rattle.pine.specs.declared.PineParam.{PineParam}
 use Rattle.pine.specs.Param.{Field64}
 use Rattle.pine.specs.Record.{wrTestBound}
+use Rattle.rows.specs.Outcome.{outcome}
 use Rattle.flp.specs.Encode.{encodeOutcome, encodeOf}
+use Rattle.vdaf.specs.Aggregates.{accumulateOf}
 
 abbrev pub double : (pattern : ℕ) → Float
 double b = ofBits binary64 b
@@ -70,3 +72,7 @@ pub record Table : Type 0 where
   pub wraps-b : wrTestBound (param 65536 1 1 1) ≡ 1048576
   -- the same, stream 0x03: 11, 0
   pub far : encodeOf Field64 (param 65536 1 1 1) (large ∷ []) (3 ∷ []) (replicate 89 7) (replicate 1 7) ≡ encodeOutcome (answer 11 0) (replicate 89 7) (replicate 1 7)
+  -- places other than 0: the second of three tests is the first out of range; the third coordinate is the first that is refused, in a gradient too long; the second element of the share is not below p
+  pub later-test : encodeOf Field64 (param 65536 1 3 1) (large ∷ []) (1 ∷ 3 ∷ 3 ∷ []) (replicate 133 7) (replicate 3 7) ≡ encodeOutcome (answer 11 1) (replicate 133 7) (replicate 3 7)
+  pub later-coordinate : encodeOf Field64 (param 1 4 2 2) (one ∷ none ∷ double 0x7ff0_0000_0000_0000 ∷ one ∷ double 1 ∷ []) (3 ∷ 0 ∷ []) (replicate 18 7) (replicate 2 7) ≡ encodeOutcome (answer 8 2) (replicate 18 7) (replicate 2 7)
+  pub second-row : accumulateOf Field64 (param 1 2 1 1) (1 ∷ 2 ∷ []) (3 ∷ p64 ∷ []) ≡ outcome (answer 12 3) (1 ∷ 2 ∷ [])

@@ -1,7 +1,7 @@
--- Rows with the answers of the original Rust, and one row for each refusal, computed from the definitions. Assumes nothing.
+-- Rows with the answers of the original Rust, one row for each refusal, and rows of the calls that the Rust does not have, computed from the definitions. Assumes nothing.
 use mathlib.Core.Path.{_≡_, refl}
 use mathlib.Core.List.{List, [], _∷_}
-use Prim.Native.Nat.{ℕ}
+use Prim.Native.Nat.{ℕ, _-_}
 use lib.ListN.{replicate}
 use lib.Ieee.{Float, binary64, ofBits}
 use Rattle.field64.specs.Field.{p64, inverseFrom}
@@ -11,10 +11,11 @@ use Rattle.rules.specs.Rules.{answer, accepted}
 use Rattle.pine.specs.Param.{Field64, paramRules, paramAnswer}
 use Rattle.pine.specs.Record.{halvings, digits, sqNormBound, sqNormBits, wrTestBound, wrTestBits, bitCheckedLen, encodedInputLen, inputLen}
 use Rattle.field64.specs.Sums.{evaluate}
+use Rattle.rows.specs.Outcome.{Outcome, outcome}
 use Rattle.flp.specs.Bits.{bits, groups}
-use Rattle.flp.specs.Tests.{pairs, weighed, weigh, testOf, testsOf}
+use Rattle.flp.specs.Tests.{pairs, weighed, weigh, testOf, testsOf, runTestsRules, runTestsOf}
 use Rattle.flp.specs.Encode.{elements, sqNorm, testBits, resultsOf, measurementOf, coordinatesRule, rangeRule, encodeOutcome, encodeRules, encodeAnswer, encodeOf}
-use Rattle.flp.specs.Circuits.{gradientPart, checkedPart, resultsPart, testParts, testNumber, successBit, normV, normU, termA, termN, testTerms, termW, termG, chunksTaken, validRules, validValue, validCalls, validOf, validEqualRules, validEqualValue, validEqualCalls, validEqualOf}
+use Rattle.flp.specs.Circuits.{gradientPart, checkedPart, resultsPart, testParts, testNumber, successBit, normV, normU, termA, termN, testTerms, termW, termG, chunksTaken, validRules, validValue, validCalls, validOf, validEqualRules, validEqualValue, validEqualCalls, validEqualOf, partRules, partOf, gradientPartOf, checkedPartOf, resultsPartOf}
 
 abbrev double : ℕ → Float
 double b = ofBits binary64 b
@@ -53,6 +54,8 @@ pub record Rows : Type 0 where
   pub short-results : encodeAnswer Field64 other six-doubles bytes (replicate 47 7) (replicate 2 7) ≡ answer 7 4
   pub not-a-number : encodeAnswer Field64 other (double 0 ∷ double 0x7ff8_0000_0000_0000 ∷ []) bytes (replicate 47 7) (replicate 3 7) ≡ answer 8 1
   pub short-gradient : encodeAnswer Field64 other (double 0 ∷ []) bytes (replicate 47 7) (replicate 3 7) ≡ answer 9 0
+  -- v is 2 ^ 64 modulo p, within its bound; test 0 skips the coordinate, test 1 adds it
+  pub second-test : encodeAnswer Field64 (inputs 65536 1 0 1 1 3 1) (double 0x41f0_0000_0000_0000 ∷ []) (1 ∷ 3 ∷ 3 ∷ []) (replicate 133 7) (replicate 3 7) ≡ answer 11 1
   pub full-length : validOf Field64 other 0 (replicate 49 0) (replicate 2 0) .answer ≡ answer 7 1
   pub joint-length : validOf Field64 other 0 (replicate 50 0) (replicate 2 0) .answer ≡ answer 7 2
   pub no-share : validOf Field64 other 0 (replicate 50 0) (p64 ∷ 0 ∷ 0 ∷ []) .answer ≡ answer 13 0
@@ -61,4 +64,48 @@ pub record Rows : Type 0 where
 
 pub rows : Rows
 unfolding encodeOf encodeRules measurementOf resultsOf coordinatesRule rangeRule elements sqNorm testBits bits evaluate groups pairs weighed weigh testOf testsOf halvings digits sqNormBound sqNormBits wrTestBound wrTestBits bitCheckedLen encodedInputLen element floorOf floorDiv clamp modP unusable paramAnswer paramRules ofBits validOf validRules validValue validCalls gradientPart checkedPart resultsPart testParts testNumber successBit normV normU termA termN testTerms termW termG chunksTaken inverseFrom inputLen validEqualOf validEqualRules validEqualValue validEqualCalls
-rows = record { six = refl; shares-1 = refl; shares-2 = refl; shares-3 = refl; shares-255 = refl; equal = refl; more-successes = refl; norm-0 = refl; dimension-0 = refl; fraction = refl; chunk = refl; tests = refl; short-stream = refl; short-measurement = refl; short-results = refl; not-a-number = refl; short-gradient = refl; full-length = refl; joint-length = refl; no-share = refl; too-many = refl; joint-element = refl }
+rows = record { six = refl; shares-1 = refl; shares-2 = refl; shares-3 = refl; shares-255 = refl; equal = refl; more-successes = refl; norm-0 = refl; dimension-0 = refl; fraction = refl; chunk = refl; tests = refl; short-stream = refl; short-measurement = refl; short-results = refl; not-a-number = refl; short-gradient = refl; second-test = refl; full-length = refl; joint-length = refl; no-share = refl; too-many = refl; joint-element = refl }
+
+-- ---- by fields: in contracts the name `encodeOutcome` stands on both sides, where nothing holds it to its sense
+record Fields : Type 0 where
+  refused : encodeOf Field64 other six-doubles (replicate 5 3) (replicate 47 7) (8 ∷ 9 ∷ []) ≡ record { answer = record { number = 7; place = 2 }; measurement = replicate 47 7; results = 8 ∷ 9 ∷ [] }
+  taken : encodeOf Field64 (inputs 1 1 0 1 1 1 1) (double 0 ∷ []) (0 ∷ []) (replicate 9 7) (replicate 1 7)
+      ≡ record { answer = record { number = 0; place = 0 }; measurement = 0 ∷ 0 ∷ 1 ∷ 1 ∷ 1 ∷ 1 ∷ 1 ∷ 0 ∷ 1 ∷ []; results = 0 ∷ [] }
+
+fields : Fields
+unfolding encodeOf encodeRules measurementOf resultsOf coordinatesRule rangeRule elements sqNorm testBits bits evaluate groups pairs weighed weigh testOf testsOf halvings digits sqNormBound sqNormBits wrTestBound wrTestBits bitCheckedLen encodedInputLen element floorOf floorDiv clamp modP unusable paramAnswer paramRules ofBits
+fields = record { refused = refl; taken = refl }
+
+-- ---- tests alone, and the parts of a vector
+abbrev tests-alone : (xs stream results : List ℕ) → Outcome
+tests-alone xs stream results = runTestsOf Field64 (inputs 1 2 0 1 1 2 1) xs stream results
+
+abbrev vector : List ℕ
+vector = 3 ∷ 10 ∷ 11 ∷ 12 ∷ 13 ∷ 14 ∷ 15 ∷ 16 ∷ 17 ∷ 5 ∷ []
+
+record Lent : Type 0 where
+  -- test 0 adds the first coordinate and takes off the second; test 1 skips the first and adds the second
+  alone : tests-alone (5 ∷ 7 ∷ []) (3 ∷ 13 ∷ []) (9 ∷ 9 ∷ []) ≡ outcome accepted ((p64 - 2) ∷ 7 ∷ [])
+  alone-short : tests-alone (5 ∷ 7 ∷ []) (3 ∷ []) (9 ∷ []) ≡ outcome (answer 7 2) (9 ∷ [])
+  alone-row : tests-alone (5 ∷ 7 ∷ []) (3 ∷ 13 ∷ []) (9 ∷ []) ≡ outcome (answer 7 3) (9 ∷ [])
+  alone-element : tests-alone (5 ∷ p64 ∷ []) (3 ∷ 13 ∷ []) (9 ∷ 9 ∷ []) ≡ outcome (answer 12 1) (9 ∷ 9 ∷ [])
+  -- d 1, L 8, T 1
+  gradient : gradientPartOf Field64 (inputs 1 1 0 1 1 1 1) vector ≡ outcome accepted (3 ∷ [])
+  checked : checkedPartOf Field64 (inputs 1 1 0 1 1 1 1) vector ≡ outcome accepted (10 ∷ 11 ∷ 12 ∷ 13 ∷ 14 ∷ 15 ∷ 16 ∷ 17 ∷ [])
+  results : resultsPartOf Field64 (inputs 1 1 0 1 1 1 1) vector ≡ outcome accepted (5 ∷ [])
+  part-short : resultsPartOf Field64 (inputs 1 1 0 1 1 1 1) (3 ∷ []) ≡ outcome (answer 7 1) []
+  part-element : gradientPartOf Field64 (inputs 1 1 0 1 1 1 1) (3 ∷ 10 ∷ 11 ∷ 12 ∷ 13 ∷ 14 ∷ 15 ∷ 16 ∷ 17 ∷ p64 ∷ []) ≡ outcome (answer 12 9) []
+
+lent : Lent
+unfolding runTestsOf runTestsRules gradientPartOf checkedPartOf resultsPartOf partOf partRules gradientPart checkedPart resultsPart evaluate groups pairs weighed weigh testOf testsOf halvings digits sqNormBound sqNormBits wrTestBound wrTestBits bitCheckedLen encodedInputLen inputLen paramAnswer paramRules
+lent = record {
+  alone = refl;
+  alone-short = refl;
+  alone-row = refl;
+  alone-element = refl;
+  gradient = refl;
+  checked = refl;
+  results = refl;
+  part-short = refl;
+  part-element = refl;
+}

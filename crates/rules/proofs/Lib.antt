@@ -1,2 +1,3 @@
--- The laws of chains of rules.
+-- `Chain`: the laws of chains of rules. `Examples`: worked examples.
 pub mod Chain
+mod Examples

@@ -72,7 +72,10 @@ record Unsharding : Type 0 where
   -- the decoded row is row 3; an element is refused after any length
   row-short : doubles 1 0 (p64 ∷ []) (1 ∷ []) [] ≡ unshardOutcome (answer 7 3) []
   in-right : doubles 1 0 (1 ∷ []) (p64 ∷ []) (plusZero ∷ []) ≡ unshardOutcome (answer 12 1) (plusZero ∷ [])
+  -- by fields: in contracts the name `unshardOutcome` stands on both sides, where nothing holds it to its sense
+  refused : doubles 2 0 (1 ∷ 2 ∷ []) (3 ∷ p64 ∷ []) (plusZero ∷ ofBits binary64 0x3ff0_0000_0000_0000 ∷ []) ≡ record { answer = record { number = 12; place = 3 }; row = plusZero ∷ ofBits binary64 0x3ff0_0000_0000_0000 ∷ [] }
+  taken : doubles 2 0 (1 ∷ 2 ∷ []) (3 ∷ (p64 - 2) ∷ []) (plusZero ∷ ofBits binary64 0x3ff0_0000_0000_0000 ∷ []) ≡ record { answer = record { number = 0; place = 0 }; row = ofBits binary64 0x4010_0000_0000_0000 ∷ plusZero ∷ [] }
 
 unsharding : Unsharding
 unfolding unshardOf unshardAnswer decodedSums decoded centred paramAnswer paramRules ofBits ofInt neg div
-unsharding = record { quarters = refl; zero-sum = refl; ties = refl; row-short = refl; in-right = refl }
+unsharding = record { quarters = refl; zero-sum = refl; ties = refl; row-short = refl; in-right = refl; refused = refl; taken = refl }
