@@ -1,4 +1,4 @@
--- Rows with the answers of the original Rust, and one row for each refusal, computed from the definitions. Assumes nothing.
+-- Rows with the answers of the original Rust, and one row for each refusal (those of 10 and 11 are in the table of `correctness`), computed from the definitions. Assumes nothing.
 use mathlib.Core.Path.{_≡_, refl}
 use mathlib.Core.List.{List, [], _∷_}
 use Prim.Native.Nat.{ℕ}
