@@ -25,8 +25,7 @@
  *
  * No call keeps state, allocates, locks, does input or output, or fails otherwise than by its answer:
  * any number of threads may call at once. Nothing depends on a NaN's payload or sign: a NaN is refused,
- * and no call gives one. Time is not constant: it depends on the lengths, and on the data where a call
- * is refused.
+ * and no call gives one. Time is not constant: it depends on the inputs, the lengths and the data.
  *
  * The archive is code for x86-64 (System V calls, position-independent, no instruction beyond SSE2). All it
  * takes from a C library is memcpy and memset.

@@ -4,6 +4,7 @@ document.py             prints each row as it comes
 document.py --write FILE PROCESSOR
                         writes the document to FILE, and the plot beside it
 """
+import re
 import sys
 from pathlib import Path
 from typing import NamedTuple
@@ -152,13 +153,36 @@ def size(count):
 
 
 def slower(rows, way, of_way, to_way):
-    """The rows that take more time than another way, in a table, or that there are none."""
+    """The rows that take more time than another way, in a table, with their causes, or that there are none."""
     compared = [r for r in rows if of_way(r)]
     behind = [r for r in compared if to_way(r).median * MARGIN < 1]
     said = f"{len(behind)} of {len(compared)} rows take more than {MARGIN} times as long as {way}."
+    if not behind:
+        return said
     columns = (NAME, LENGTH, OF, OURS, (way, False, lambda r: spread(of_way(r))))
     times = (f"{way} / ours", True, lambda r: ratio(to_way(r)))
-    return said + ("\n\n" + table((*columns, times), behind) if behind else "")
+    return "\n\n".join((said, table((*columns, times), behind), causes(way, [r.text() for r in behind])))
+
+
+def written(heading):
+    """The part of why.md under this heading."""
+    parts = re.split(r"^# (.*)\n", (HERE / "why.md").read_text(), flags=re.MULTILINE)
+    return dict(zip(parts[1::2], map(str.strip, parts[2::2])))[heading]
+
+
+def causes(way, behind):
+    """The entries of why.md that name one of these rows, by its whole text or its beginning; then the rows without."""
+    def names(entry):
+        return re.findall("`([^`]*)`", entry.partition(":")[0])
+
+    def of(name):
+        return {text for text in behind if text == name or text.startswith(name + ",")}
+
+    entries = [entry.strip() for entry in re.split(r"^- ", written(way), flags=re.MULTILINE) if entry.strip()]
+    shown = [entry for entry in entries if any(map(of, names(entry)))]
+    known = {text for entry in shown for name in names(entry) for text in of(name)}
+    rest = [text for text in dict.fromkeys(behind) if text not in known]
+    return "\n".join(f"- {entry}" for entry in (*shown, *(f"`{text}`: the cause was not sought." for text in rest)))
 
 
 def document(rows, processor, picture):
@@ -180,7 +204,8 @@ def document(rows, processor, picture):
         slower(calls + leaves, "by hand", lambda r: r.by_hand, lambda r: r.to_by_hand),
         "## Slower than the original",
         slower(calls + leaves, "the original", lambda r: r.original, lambda r: r.to_original),
-        (HERE / "why.md").read_text().strip(),
+        "## On another processor",
+        written("On another processor"),
     ]
     return "\n\n".join(parts) + "\n"
 

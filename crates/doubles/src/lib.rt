@@ -1,6 +1,7 @@
 // A double as an element of Field64, and back. specs/Doubles.antt says what the two public calls,
-// f64_to_field and field_to_f64, answer for any arguments. The other pub functions are for loops
-// over rows: they take the ready scale, 2^frac_bits, which a row's caller makes once.
+// f64_to_field and field_to_f64, answer for any arguments. The other pub functions are for the crates
+// above: rule 4, the scale 2^frac_bits, which a row's caller makes once, and what loops over rows call
+// with it.
 use rules::Answer;
 ghost use mathlib.Core.Path.{_≡_};
 ghost use mathlib.Core.Bool.{true, false, not};

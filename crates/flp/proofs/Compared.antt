@@ -1,4 +1,4 @@
--- Rows with the answers of the original Rust, one row for each refusal, and rows of the calls that the Rust does not have, computed from the definitions. Assumes nothing.
+-- Rows with the answers of the original Rust, one row for each refusal (that of 10 is in the table of `correctness`), and rows of the calls that the Rust does not have, computed from the definitions. Assumes nothing.
 use mathlib.Core.Path.{_≡_, refl}
 use mathlib.Core.List.{List, [], _∷_}
 use Prim.Native.Nat.{ℕ, _-_}

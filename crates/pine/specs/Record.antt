@@ -109,7 +109,7 @@ pub record FromAccepted (F : Field) (r : Pine) : Type 0 where
   pub accepts : paramAnswer F param ≡ accepted
   pub is : r ≡ pineOf param
 
--- ---- lengths of a circuit whose one gadget, of degree 2, has `arity` inputs and is called `calls` times (VDAF draft, "FLP specification")
+-- ---- lengths of a circuit whose one gadget, of degree 2, has `arity` inputs and is called `calls` times (document 01: as in each `Type` of the Rust)
 
 abbrev pub proofLen : (arity calls : ℕ) → ℕ
 proofLen arity calls = arity + 2 * (powerAbove calls - 1) + 1

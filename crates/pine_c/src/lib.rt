@@ -1,6 +1,7 @@
 // The public calls for C and Rust: `rt staticlib pine_c` makes libpine_c.a, and include/pine.h declares
-// them. Each hands its arguments to the call of the same name, takes any arguments as that does, and has
-// the same contract. A row crosses as a pointer and a length, a struct by value.
+// them. Each hands its arguments to the call of the same name (a part to that of its place), takes any
+// arguments as that does, and has the same contract. A row crosses as a pointer and a length, a struct by
+// value.
 use doubles::Coordinate;
 use doubles::Decoded;
 use flp::Circuit;
