@@ -7,7 +7,9 @@ use lib.Ieee.{Float}
 use borrow.Author.Tests.{eq-eqb, ne-eqb}
 use Rattle.rules.specs.declared.Answer.{Answer}
 use Rattle.pine.specs.declared.PineParam.{PineParam}
+use Rattle.pine.specs.declared.record.Pine.{Pine}
 use Rattle.pine.specs.Param.{Field}
+use Rattle.pine.specs.Record.{pineOf}
 use Rattle.rows.specs.Rows.{addRows}
 use Rattle.rows.specs.Outcome.{outcome}
 use Rattle.vdaf.specs.Aggregates.{emptyAnswer, emptyOf, accumulateAnswer, accumulateOf, unshardOutcome, decodedSums, unshardAnswer, unshardOf}
@@ -48,6 +50,7 @@ module _ (F : Field) (i : PineParam) (a : Answer) where
     pub unshard-met : a .number ≡ 0 → TwoRows F i left right × (length row ≡ i .dimension)
     unshard-met z = unsharded F i left right row (ap number (sym e) ∙ z)
 
-    pub unshard-done : a .number ≡ 0 → (r : List Float) → r ≡ decodedSums (F .p) (i .«frac_bits») left right → unshardOutcome a r ≡ unshardOf F i left right row
-    unfolding unshardOf
-    unshard-done z r g = rw (g, ← e, eq-eqb (a .number) 0 z)
+    -- decoded at the record's own scale
+    pub unshard-done : a .number ≡ 0 → (R : Pine) → R ≡ pineOf i → (r : List Float) → r ≡ decodedSums (F .p) (R .«frac_bits») left right → unshardOutcome a r ≡ unshardOf F i left right row
+    unfolding unshardOf pineOf
+    unshard-done z R f r g = rw (g, f, ← e, eq-eqb (a .number) 0 z)
