@@ -10,9 +10,9 @@ use Rattle.pine.specs.declared.PineParam.{PineParam}
 use Rattle.pine.specs.declared.record.Pine.{Pine}
 use Rattle.pine.specs.Param.{Field}
 use Rattle.pine.specs.Record.{pineOf}
-use Rattle.rows.specs.Rows.{addRows}
+use Rattle.rows.specs.Rows.{addRows, subRows}
 use Rattle.rows.specs.Outcome.{outcome}
-use Rattle.vdaf.specs.Aggregates.{emptyAnswer, emptyOf, accumulateAnswer, accumulateOf, unshardOutcome, decodedSums, unshardAnswer, unshardOf}
+use Rattle.vdaf.specs.Aggregates.{emptyAnswer, emptyOf, accumulateAnswer, accumulateOf, subtractOf, unshardOutcome, decodedSums, unshardAnswer, unshardOf}
 use Rattle.vdaf.proofs.Accepted.{TwoRows, emptied, added, unsharded}
 
 abbrev pub number : Answer → ℕ
@@ -41,6 +41,14 @@ module _ (F : Field) (i : PineParam) (a : Answer) where
     pub accumulate-done : a .number ≡ 0 → (r : List ℕ) → r ≡ addRows (F .p) agg share → outcome a r ≡ accumulateOf F i agg share
     unfolding accumulateOf
     accumulate-done z r g = rw (g, ← e, eq-eqb (a .number) 0 z)
+
+    pub subtract-refused : (a .number ≡ 0 → ⊥) → outcome a agg ≡ subtractOf F i agg share
+    unfolding subtractOf
+    subtract-refused n = rw (← e, ne-eqb (a .number) 0 n)
+
+    pub subtract-done : a .number ≡ 0 → (r : List ℕ) → r ≡ subRows (F .p) agg share → outcome a r ≡ subtractOf F i agg share
+    unfolding subtractOf
+    subtract-done z r g = rw (g, ← e, eq-eqb (a .number) 0 z)
 
   module _ (left right : List ℕ) (row : List Float) (e : a ≡ unshardAnswer F i left right row) where
     pub unshard-refused : (a .number ≡ 0 → ⊥) → unshardOutcome a row ≡ unshardOf F i left right row

@@ -1,6 +1,6 @@
 // Aggregates of PINE over Field64 (pine/vdaf.rs of the Rust): the aggregate of no shares, adding to
-// an aggregate, and reading two aggregates back as doubles. Each public call takes any arguments; a
-// function named check_* decides its answer and writes nothing.
+// an aggregate, taking out of one, and reading two aggregates back as doubles. Each public call takes
+// any arguments; a function named check_* decides its answer and writes nothing.
 use pine::PineParam;
 use pine::record::Pine;
 use rules::Answer;
@@ -12,7 +12,7 @@ ghost use Rattle.doubles.specs.Doubles.{power};
 ghost use Rattle.pine.specs.Param.{Field64, paramAnswer};
 ghost use Rattle.rows.specs.Rows.{rowRule, Below};
 ghost use Rattle.rows.specs.Outcome.{outcome};
-ghost use Rattle.vdaf.specs.Aggregates.{emptyAnswer, emptyOf, accumulateAnswer, accumulateOf, unshardOutcome, decodedSums, unshardAnswer, unshardOf};
+ghost use Rattle.vdaf.specs.Aggregates.{emptyAnswer, emptyOf, accumulateAnswer, accumulateOf, subtractOf, unshardOutcome, decodedSums, unshardAnswer, unshardOf};
 
 // Rules 1 to 7 of two rows of these lengths.
 fn check_lens(param: PineParam, left: usize, right: usize) -> Answer
@@ -101,6 +101,25 @@ pub fn merge(param: PineParam, agg: &mut [u64], other: &[u64]) -> Answer
     ensures { λ r. ⌜ outcome r (now (agg .exit)) ≡ accumulateOf Field64 param (now (agg .entry)) (now (other .entry)) ⌝ }
 {
     accumulate(param, agg, other)
+}
+
+// Takes a share out of an aggregate, whether or not it was added. It refuses what adding refuses.
+pub fn subtract(param: PineParam, agg: &mut [u64], share: &[u64]) -> Answer
+    ensures { λ r. ⌜ outcome r (now (agg .exit)) ≡ subtractOf Field64 param (now (agg .entry)) (now (share .entry)) ⌝ }
+{
+    let answer = check_accumulate(param, agg, share);
+    if answer.number != 0 {
+        return answer;
+    }
+    rows::sub_rows(agg, share);
+    answer
+}
+
+// Takes another aggregate out of an aggregate: the same taking out.
+pub fn unmerge(param: PineParam, agg: &mut [u64], other: &[u64]) -> Answer
+    ensures { λ r. ⌜ outcome r (now (agg .exit)) ≡ subtractOf Field64 param (now (agg .entry)) (now (other .entry)) ⌝ }
+{
+    subtract(param, agg, other)
 }
 
 // Adds two aggregates and writes the sums as doubles.
