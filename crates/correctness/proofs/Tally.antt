@@ -247,7 +247,7 @@ module _ (p d : ℕ) (positive : 0 < p) where
       rows : a .row ≡ b .row
       rows = ext-getD 0 (a .row) (b .row) (f .row .long ∙ sym (g .row .long)) (λ j h. elements j (omega (arith, f .row .long)))
 
-  pub finished : (a : Aggregate) (x : Answer) (done : List ℕ) (new : Tally) → Backed p d a → (x .number ≡ 0 → Backed p d (aggregate done new)) → Backed p d (after a (finish x done (a .row)) new)
+  finished : (a : Aggregate) (x : Answer) (done : List ℕ) (new : Tally) → Backed p d a → (x .number ≡ 0 → Backed p d (aggregate done new)) → Backed p d (after a (finish x done (a .row)) new)
   finished a x done new f g = go (eqb (x .number) 0) refl
     where
       go : (t : Bool) → eqb (x .number) 0 ≡ t → Backed p d (aggregate (cond t done (a .row)) (cond t new (a .tally)))

@@ -5,4 +5,4 @@ pub mod ByElement
 pub mod Added
 pub mod Blocks
 pub mod Walk
-mod Joining
+pub mod Joining
