@@ -11,7 +11,7 @@
  * Answers. number 0 and place 0: accepted. Otherwise number is the first rule broken, in the order 1 to
  * 7, 13, 12, 8, 9, 10, 11, and place is where (enum PineRule). A refused call leaves every row as it
  * was. An accepted call writes every element of its output rows and reads none of what they held before
- * (of an aggregate that is added to: argument and result).
+ * (of an aggregate that is added to or taken from: argument and result).
  *
  * What the caller owes, which no proof can see:
  * - A pointer is valid for its length, and aligned for its type (8 bytes, 1 for the stream). Give an
@@ -223,6 +223,16 @@ PineAnswer pine_accumulate(PineParam param,
 PineAnswer pine_merge(PineParam param,
                       uint64_t *agg, size_t agg_len,
                       const uint64_t *other, size_t other_len);
+
+/* Takes a share (row 2) out of an aggregate (row 1, written), whether or not it was added. Rules 1 to 7, 12. */
+PineAnswer pine_subtract(PineParam param,
+                         uint64_t *agg, size_t agg_len,
+                         const uint64_t *share, size_t share_len);
+
+/* Takes another aggregate (row 2) out of an aggregate (row 1, written). Rules 1 to 7, 12. */
+PineAnswer pine_unmerge(PineParam param,
+                        uint64_t *agg, size_t agg_len,
+                        const uint64_t *other, size_t other_len);
 
 /* Adds two aggregates (rows 1 and 2) and decodes the sums (row 3, written). Rules 1 to 7, 12. */
 PineAnswer pine_unshard(PineParam param,

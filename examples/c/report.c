@@ -1,12 +1,14 @@
 /* Reports from end to end: a client encodes a gradient and cuts it in two; each of two servers runs the
  * wraparound tests on its share and adds it to its aggregate; the two aggregates together give the sum of
- * the gradients. C11, and C++ as well. */
+ * the gradients. Then a report is withdrawn: each server takes out the share that it added. C11, and C++ as
+ * well. */
 #include "pine.h"
 
 #include <stdio.h>
 #include <stdlib.h>
+#include <string.h>
 
-enum { DIMENSION = 5, REPORTS = 3 };
+enum { DIMENSION = 5, REPORTS = 3, WITHDRAWN = 1 };
 
 static const PineParam param = {
     /* norm_bound: of the gradient times 2^frac_bits */ 1 << 12,
@@ -86,6 +88,15 @@ static uint64_t add(uint64_t a, uint64_t b) {
     return sub(a, b == 0 ? 0 : PINE_FIELD_MODULUS - b);
 }
 
+/* The two aggregates added, as doubles. */
+static void print_sum(const uint64_t *left, const uint64_t *right) {
+    double decoded[DIMENSION];
+    must(pine_unshard(param, left, DIMENSION, right, DIMENSION, decoded, DIMENSION), "unshard");
+    for (size_t i = 0; i < DIMENSION; i++) {
+        printf(" %g", decoded[i]);
+    }
+}
+
 int main(void) {
     const PineDerived derived = pine_derive(param);
     must(derived.answer, "derive");
@@ -97,11 +108,11 @@ int main(void) {
 
     uint8_t *stream = (uint8_t *)row(stream_len, 1);
     uint64_t *full = (uint64_t *)row(input_len, 8); /* a measurement, then its results */
-    uint64_t *share[2], *aggregate[2];
-    double *decoded = (double *)row(d, sizeof(double));
+    uint64_t *share[2], *aggregate[2], *withdrawn[2];
     for (int s = 0; s < 2; s++) {
         share[s] = (uint64_t *)row(input_len, 8);
         aggregate[s] = (uint64_t *)row(d, 8);
+        withdrawn[s] = (uint64_t *)row(d, 8);
         must(pine_empty_aggregate(param, aggregate[s], d), "empty_aggregate");
     }
 
@@ -152,22 +163,27 @@ int main(void) {
             must(part.answer, "gradient_part");
             must(pine_accumulate(param, aggregate[s], d, share[s] + part.start, (size_t)part.len),
                  "accumulate");
+            if (report == WITHDRAWN) {
+                memcpy(withdrawn[s], share[s] + part.start, d * 8);
+            }
         }
     }
-
-    must(pine_unshard(param, aggregate[0], d, aggregate[1], d, decoded, d), "unshard");
     printf("the sum of %d gradients:", REPORTS);
-    for (size_t i = 0; i < d; i++) {
-        printf(" %g", decoded[i]);
+    print_sum(aggregate[0], aggregate[1]);
+
+    for (int s = 0; s < 2; s++) {
+        must(pine_subtract(param, aggregate[s], d, withdrawn[s], d), "subtract");
     }
+    printf("; without the second:");
+    print_sum(aggregate[0], aggregate[1]);
     printf("\n");
 
     free(stream);
     free(full);
-    free(decoded);
     for (int s = 0; s < 2; s++) {
         free(share[s]);
         free(aggregate[s]);
+        free(withdrawn[s]);
     }
     return 0;
 }

@@ -39,12 +39,12 @@
 
 enum Kind {
     CHECK_PARAM, DERIVE, F64_TO_FIELD, FIELD_TO_F64, ENCODE, RUN_WR_TESTS, VALID, VALID_EQUAL, GRADIENT_PART,
-    CHECKED_PART, RESULTS_PART, EMPTY_AGGREGATE, ACCUMULATE, MERGE, UNSHARD, KINDS
+    CHECKED_PART, RESULTS_PART, EMPTY_AGGREGATE, ACCUMULATE, MERGE, SUBTRACT, UNMERGE, UNSHARD, KINDS
 };
 static const char *const names[KINDS] = {
     "check_param", "derive", "f64_to_field", "field_to_f64", "encode_with_wr_joint_rand", "run_wr_tests", "valid",
     "valid_sq_norm_equal", "gradient_part", "checked_part", "results_part", "empty_aggregate", "accumulate", "merge",
-    "unshard"
+    "subtract", "unmerge", "unshard"
 };
 static unsigned long long seed, made, counts[KINDS][14], reports;
 static volatile enum Kind kind;
@@ -339,6 +339,7 @@ static unsigned char *given[ROWS];
 /* ---- a report, from end to end */
 
 static uint64_t add(uint64_t a, uint64_t b) { return a >= P - b ? a - (P - b) : a + b; }
+static uint64_t sub(uint64_t a, uint64_t b) { return a >= b ? a - b : a + (P - b); }
 
 static void report(PineParam p, const PineDerived *v) {
     size_t d = (size_t)p.dimension, encoded = (size_t)v->pine.encoded_input_len, full = (size_t)v->pine.input_len;
@@ -367,7 +368,7 @@ static void report(PineParam p, const PineDerived *v) {
     }
     for (size_t k = 0; k < encoded; k++) {
         left[k] = element();
-        right[k] = add(measurement[k], left[k] == 0 ? 0 : P - left[k]);
+        right[k] = sub(measurement[k], left[k]);
     }
     for (int side = 0; side < 2; side++) {
         uint64_t *share = side == 0 ? left : right;
@@ -426,6 +427,8 @@ done:
 }
 
 /* ---- one step: a call or a report */
+
+typedef PineAnswer OnTwoRows(PineParam param, uint64_t *agg, size_t agg_len, const uint64_t *other, size_t other_len);
 
 static void step(void) {
     PineParam p = any_param();
@@ -559,12 +562,16 @@ static void step(void) {
         break;
     }
     case ACCUMULATE:
-    case MERGE: {
+    case MERGE:
+    case SUBTRACT:
+    case UNMERGE: {
+        static OnTwoRows *const calls[] = {pine_accumulate, pine_merge, pine_subtract, pine_unmerge};
+        int added = kind == ACCUMULATE || kind == MERGE;
         size_t n[2] = {near(d, 0), near(d, 0)};
         uint64_t *g = (uint64_t *)pointer(elements(0, n[0], 0), n[0]), *s = (uint64_t *)pointer(elements(1, n[1], 0), n[1]);
         keep(0);
         keep(1);
-        a = kind == MERGE ? pine_merge(p, g, n[0], s, n[1]) : pine_accumulate(p, g, n[0], s, n[1]);
+        a = calls[kind - ACCUMULATE](p, g, n[0], s, n[1]);
         count(a);
         margin_same(0);
         margin_same(1);
@@ -574,8 +581,8 @@ static void step(void) {
         } else {
             const uint64_t *before = (const uint64_t *)(const void *)rows[0].kept;
             for (size_t k = 0; k < n[0]; k++) {
-                if (g[k] != add(before[k], s[k])) {
-                    fail("gives another sum");
+                if (g[k] != (added ? add(before[k], s[k]) : sub(before[k], s[k]))) {
+                    fail("gives another row");
                 }
             }
         }

@@ -5,6 +5,8 @@ PineAnswer __real_pine_unshard(PineParam p, const uint64_t *l, size_t ln, const 
 PineAnswer __wrap_pine_unshard(PineParam p, const uint64_t *l, size_t ln, const uint64_t *r, size_t rn, double *o, size_t on);
 PineAnswer __real_pine_accumulate(PineParam p, uint64_t *g, size_t gn, const uint64_t *s, size_t sn);
 PineAnswer __wrap_pine_accumulate(PineParam p, uint64_t *g, size_t gn, const uint64_t *s, size_t sn);
+PineAnswer __real_pine_subtract(PineParam p, uint64_t *g, size_t gn, const uint64_t *s, size_t sn);
+PineAnswer __wrap_pine_subtract(PineParam p, uint64_t *g, size_t gn, const uint64_t *s, size_t sn);
 PineAnswer __real_pine_empty_aggregate(PineParam p, uint64_t *r, size_t n);
 PineAnswer __wrap_pine_empty_aggregate(PineParam p, uint64_t *r, size_t n);
 
@@ -49,4 +51,9 @@ PineAnswer __wrap_pine_empty_aggregate(PineParam p, uint64_t *r, size_t n) {
     while (FAULT == 8 && a.number == 0) {
     }
     return a;
+}
+
+/* 9: adds what it is to take out */
+PineAnswer __wrap_pine_subtract(PineParam p, uint64_t *g, size_t gn, const uint64_t *s, size_t sn) {
+    return FAULT == 9 ? __real_pine_accumulate(p, g, gn, s, sn) : __real_pine_subtract(p, g, gn, s, sn);
 }

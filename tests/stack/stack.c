@@ -65,6 +65,8 @@ static void results_part(void) { taken += pine_results_part(param, measurement, 
 static void empty_aggregate(void) { taken += pine_empty_aggregate(param, other, d).number; }
 static void accumulate(void) { taken += pine_accumulate(param, other, d, elements, d).number; }
 static void merge(void) { taken += pine_merge(param, other, d, elements, d).number; }
+static void subtract(void) { taken += pine_subtract(param, other, d, elements, d).number; }
+static void unmerge(void) { taken += pine_unmerge(param, other, d, elements, d).number; }
 static void unshard(void) { taken += pine_unshard(param, elements, d, other, d, decoded, d).number; }
 
 static const struct {
@@ -85,6 +87,8 @@ static const struct {
     {"empty_aggregate", empty_aggregate},
     {"accumulate", accumulate},
     {"merge", merge},
+    {"subtract", subtract},
+    {"unmerge", unmerge},
     {"unshard", unshard},
 };
 enum { CALLS = sizeof calls / sizeof *calls };

@@ -99,6 +99,20 @@ extern "C" {
         other: *const u64,
         other_len: usize,
     ) -> Answer;
+    pub fn pine_subtract(
+        param: PineParam,
+        agg: *mut u64,
+        agg_len: usize,
+        share: *const u64,
+        share_len: usize,
+    ) -> Answer;
+    pub fn pine_unmerge(
+        param: PineParam,
+        agg: *mut u64,
+        agg_len: usize,
+        other: *const u64,
+        other_len: usize,
+    ) -> Answer;
     pub fn pine_unshard(
         param: PineParam,
         left: *const u64,

@@ -332,6 +332,34 @@ pub fn merge(param: PineParam, agg: &mut [u64], other: &[u64]) -> Result<(), Err
     })
 }
 
+/// Takes a share out of an aggregate, whether or not it was added. Rules 1 to 7, 12.
+pub fn subtract(param: PineParam, agg: &mut [u64], share: &[u64]) -> Result<(), Error> {
+    // SAFETY: each pointer is a slice's own, with that slice's length; the borrows keep them apart.
+    result(unsafe {
+        ffi::pine_subtract(
+            param,
+            agg.as_mut_ptr(),
+            agg.len(),
+            share.as_ptr(),
+            share.len(),
+        )
+    })
+}
+
+/// Takes another aggregate out of an aggregate. Rules 1 to 7, 12.
+pub fn unmerge(param: PineParam, agg: &mut [u64], other: &[u64]) -> Result<(), Error> {
+    // SAFETY: each pointer is a slice's own, with that slice's length; the borrows keep them apart.
+    result(unsafe {
+        ffi::pine_unmerge(
+            param,
+            agg.as_mut_ptr(),
+            agg.len(),
+            other.as_ptr(),
+            other.len(),
+        )
+    })
+}
+
 /// Adds two aggregates and writes the sums as doubles. Rules 1 to 7, 12.
 pub fn unshard(
     param: PineParam,

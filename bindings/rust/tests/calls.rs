@@ -143,6 +143,8 @@ fn rows_of_other_lengths() {
     refused(accumulate(p, &mut row[..3], &four), Rule::RowLen, 1);
     refused(accumulate(p, &mut row, &two), Rule::RowLen, 2);
     refused(merge(p, &mut row, &[]), Rule::RowLen, 2);
+    refused(subtract(p, &mut row, &two), Rule::RowLen, 2);
+    refused(unmerge(p, &mut row[..3], &four), Rule::RowLen, 1);
     refused(unshard(p, &four, &four, &mut decoded[..1]), Rule::RowLen, 3);
     refused(run_wr_tests(p, &four, &[0], &mut results), Rule::RowLen, 2);
     refused(
@@ -176,6 +178,8 @@ fn elements_and_shares() {
     assert_eq!(row, [7, 7, 7, u64::MAX]);
     row[3] = 7;
     refused(merge(p, &mut row, &[0, P, 0, 0]), Rule::Element, 5);
+    refused(subtract(p, &mut row, &[0, 0, P, 0]), Rule::Element, 6);
+    refused(unmerge(p, &mut row, &[0, 0, 0, P]), Rule::Element, 7);
     assert_eq!(row, [7; 4]);
     let mut decoded = [7.0; 4];
     refused(
@@ -184,6 +188,19 @@ fn elements_and_shares() {
         6,
     );
     assert_eq!(decoded, [7.0; 4]);
+}
+
+#[test]
+fn rows_taken_out() {
+    let p = param(1, 2, 0, 1, 1);
+    let mut agg = [3, P - 1];
+    subtract(p, &mut agg, &[5, P - 1]).unwrap();
+    assert_eq!(agg, [P - 2, 0]);
+    accumulate(p, &mut agg, &[5, P - 1]).unwrap();
+    assert_eq!(agg, [3, P - 1]);
+    let other = agg;
+    unmerge(p, &mut agg, &other).unwrap();
+    assert_eq!(agg, [0, 0]);
 }
 
 #[test]
@@ -239,6 +256,7 @@ fn reports_cut_in_two() {
             empty_aggregate(p, aggregate).unwrap();
         }
         let mut sums = vec![0.0; d];
+        let mut withdrawn = None;
         let mut reports = 0;
         while reports < 5 {
             let gradient: Vec<f64> = (0..d)
@@ -296,7 +314,18 @@ fn reports_cut_in_two() {
             for (sum, x) in sums.iter_mut().zip(&gradient) {
                 *sum += x;
             }
+            if reports == 2 {
+                withdrawn = Some((gradient, shares));
+            }
             reports += 1;
+        }
+        // the third report is taken out again
+        let (gradient, shares) = withdrawn.unwrap();
+        for (aggregate, share) in aggregates.iter_mut().zip(&shares) {
+            subtract(p, aggregate, gradient_part(p, share).unwrap()).unwrap();
+        }
+        for (sum, x) in sums.iter_mut().zip(&gradient) {
+            *sum -= x;
         }
         // merging an aggregate of no shares changes nothing
         let nothing = vec![0; d];

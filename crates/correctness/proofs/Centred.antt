@@ -2,7 +2,7 @@
 use mathlib.Core.Path.{_≡_, refl, sym, ap, _∙_}
 use mathlib.Core.Bool.{Bool, true, false, cond}
 use Prim.Native.Nat.{ℕ, suc, _+_, _-_, _/_, _%_, _≤_, _<_}
-use native.Mathlib.Nat.{mod-lt, mod-self, mod-mod, zero-mod, mod-add-mod, add-mod-mod, mod-eq-of-lt, mod-eq-sub-mod, add-zero}
+use native.Mathlib.Nat.{mod-lt, mod-self, mod-mod, zero-mod, add-mod-mod, mod-eq-of-lt, mod-eq-sub-mod, add-zero}
 use native.Mathlib.Omega.{arith}
 use lib.Dec.{ltb}
 use lib.IntN.{ℤ, pos, negsuc, natAbs, subℕ, _+ℤ_}
@@ -27,7 +27,7 @@ sub-parts a b = go (ltb a b) refl
     go true e = omega (arith, ltb-true a b e)
     go false e = omega (arith, ltb-false a b e)
 
-sum-parts : (x y : ℤ) → plus (x +ℤ y) + (minus x + minus y) ≡ minus (x +ℤ y) + (plus x + plus y)
+pub sum-parts : (x y : ℤ) → plus (x +ℤ y) + (minus x + minus y) ≡ minus (x +ℤ y) + (plus x + plus y)
 sum-parts (pos a) (pos b) = omega arith
 sum-parts (pos a) (negsuc b) = omega (arith, sub-parts a (suc b))
 sum-parts (negsuc a) (pos b) = omega (arith, sub-parts b (suc a))

@@ -2,7 +2,7 @@
 use Prim.Native.Nat.{ℕ, zero, suc, _-_, _*_, _/_, _^_, _<_, _≤_, min}
 use mathlib.Core.Path.{_≡_, refl, sym, ap, _∙_}
 use mathlib.Core.Bool.{Bool, true, false, cond}
-use mathlib.Core.List.{List, [], _∷_, _++_, map, Perm}
+use mathlib.Core.List.{List, [], _∷_, map}
 use native.Mathlib.Nat.{zero-mul, mul-pos}
 use native.Mathlib.Omega.{arith}
 use lib.Dec.{ltb}
@@ -10,16 +10,15 @@ use lib.ListN.{length, getD, take, replicate, length-replicate}
 use lib.Seq.{length-take-le, getD-take}
 use lib.IntN.{ℤ, pos, negsuc, negℤ, natAbs, _+ℤ_}
 use lib.Pow.{pow-pos}
-use lib.Ieee.{Float, fin, binary64, round, ofInt, neg, div}
+use lib.Ieee.{Float, binary64, round, ofInt, neg, div}
 use lib.Ieee.Scale.{round-same}
 use Rattle.rules.specs.Rules.{accepted}
-use Rattle.field64.specs.Field.{p64}
 use Rattle.doubles.specs.Doubles.{clamp, modP, element, power, plusZero, centred, decoded}
 use Rattle.doubles.proofs.Laws.{round-neg, div-power}
 use Rattle.pine.specs.declared.PineParam.{PineParam}
 use Rattle.pine.specs.Param.{Field, Field64, paramAnswer}
 use Rattle.pine.specs.Record.{bytesPerTest}
-use Rattle.rows.specs.Rows.{Below, addRows}
+use Rattle.rows.specs.Rows.{addRows}
 use Rattle.rows.specs.Outcome.{Outcome, outcome}
 use Rattle.rows.proofs.Elements.{below-take, below-at}
 use Rattle.rows.proofs.Added.{take-add, length-addRows, getD-addRows, add-below}
@@ -27,14 +26,14 @@ use Rattle.flp.specs.Tests.{testsOf, runTestsOf}
 use Rattle.flp.proofs.Gradient.{Room, room-64}
 use Rattle.flp.proofs.Valid.{accepted-inputs, long-enough, measurement-at, results-cut, left-alone, right-alone, main-cut, norm-cut}
 use Rattle.vdaf.specs.Aggregates.{decodedSums}
-use Rattle.vdaf.proofs.Accepted.{TwoRows, unshards}
+use Rattle.vdaf.proofs.Accepted.{unshards}
 use Rattle.vdaf.proofs.Decoded.{length-decodedSums, getD-decodedSums}
-use Rattle.correctness.specs.Tally.{Aggregates, run, FieldRow, Each, Tallied}
+use Rattle.correctness.specs.Tally.{run, FieldRow, Each, Joined}
 use Rattle.correctness.proofs.Cut.{Cut, shares, StandsFor, centredNumber, numbersSum}
 use Rattle.correctness.specs.Correctness.{sumℤ}
 use Rattle.correctness.specs.Correctness as C
 use Rattle.correctness.specs.Correctness.{nearestOver, Correctness}
-use Rattle.correctness.proofs.Aggregation.{aggregation}
+use Rattle.correctness.proofs.Aggregation.{aggregation, taken-as-added}
 
 each-of : {A : Type 0} {P : A → Type 0} → ((x : A) → P x) → (xs : List A) → Each P xs
 each-of f [] = tt
@@ -184,12 +183,13 @@ correctness F positive rooms i ok s b calls rs =
       empty-answers = g .empty-answers;
       accumulate-answers = g .accumulate-answers;
       merge-answers = g .merge-answers;
+      subtract-answers = taken-as-added F d;
       decoded = λ k m q found l.
           let A = run F s calls k in
           let B = run F s calls m in
           let a : FieldRow (F .p) d (A .row) = g .tallied k .row in
           let b : FieldRow (F .p) d (B .row) = g .tallied m .row in
-          let q2 : Perm (A .tally ++ B .tally) (shares (cuts F i (rooms i) rs)) = rw (cut-shares F i (rooms i)) q in
+          let q2 : Joined (A .tally) (B .tally) (shares (cuts F i (rooms i) rs)) = rw (cut-shares F i (rooms i)) q in
           let at : (j : ℕ) → j < d → Each (C.Unclamped F i j) rs → natAbs (C.floorsSum F i j rs) ≤ (F .p - 1) / 2 → getD (decodedSums (F .p) (i .«frac_bits») (A .row) (B .row)) j plusZero ≡ nearestOver (i .«frac_bits») (C.floorsSum F i j rs) = λ j h u w. decoded-at F i positive rs (rooms i) (A .row) (B .row) a b j h (g .reads k m q2 j h (cut-stands F i (rooms i) j h rs u) (rw cut-sum w)) in
           let u = unshards F i (A .row) (B .row) found (record { param = ok; left-long = a .long; right-long = b .long; left-below = a .below; right-below = b .below }) l in
           rw u (record {

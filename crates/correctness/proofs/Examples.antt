@@ -1,9 +1,10 @@
--- A list of calls run, with refused ones in it: what `Aggregation` asks can be met. Assumes nothing.
-use mathlib.Core.Path.{_≡_, refl}
-use mathlib.Core.List.{List, [], _∷_, Permᴰ·middle, List·Permᴰ·cons, List·Permᴰ·nil}
+-- Lists of calls run, with refused ones and withdrawals in them: what the statements ask can be met. Assumes nothing.
+use mathlib.Core.Path.{_≡_, refl, ap, subst}
+use mathlib.Core.Bool.{Bool, true, false}
+use mathlib.Core.List.{List, [], _∷_}
 use Prim.Native.Nat.{ℕ, _<_, _-_}
 use native.Mathlib.Omega.{arith}
-use lib.IntN.{negsuc}
+use lib.IntN.{pos, negsuc, _+ℤ_}
 use lib.ListN.{getD, length, take, replicate}
 use lib.Dec.{lit≤}
 use lib.Ieee.{ofBits, round, ofInt, div}
@@ -17,22 +18,25 @@ use Rattle.doubles.specs.Doubles.{modP, floorDiv, floorOf, plusZero}
 use Rattle.pine.specs.declared.PineParam.{PineParam}
 use Rattle.pine.specs.Param.{Field64, paramRules, paramAnswer}
 use Rattle.rows.specs.Rows.{addRows, elementsRule}
-use Rattle.vdaf.specs.Aggregates.{emptyAnswer, emptyOf, accumulateAnswer, accumulateOf, unshardOf}
-use Rattle.correctness.specs.Tally.{Call, Aggregates, step, run, Begun, FieldRow}
+use Rattle.vdaf.specs.Aggregates.{emptyAnswer, emptyOf, accumulateAnswer, accumulateOf, subtractOf, unshardOf}
+use Rattle.correctness.specs.Tally.{eqRow, count, Tally, nothing, Call, Aggregates, step, run, Begun, FieldRow, Each, Joined}
 use Rattle.correctness.proofs.Cut.{Cut, centredNumber}
 use Rattle.correctness.specs.Correctness.{sumℤ}
 use Rattle.correctness.proofs.Aggregation.{aggregation}
+use Rattle.correctness.proofs.Counts.{eqRow-true}
+use Rattle.correctness.proofs.Undo.{withdrawal}
+use Rattle.rules.specs.declared.Answer.{Answer}
 
 abbrev with-dimension : ℕ → PineParam
 with-dimension d = record { «norm_bound» = 1; dimension = d; «frac_bits» = 0; «chunk_len» = 1; «chunk_len_sq_norm_equal» = 1; «num_wr_tests» = 1; «num_wr_successes» = 1 }
 
 abbrev start : Aggregates
-start k = record { row = 0 ∷ 0 ∷ []; tally = [] }
+start k = record { row = 0 ∷ 0 ∷ []; tally = nothing }
 
 -- what the rows held before does not matter
 begun : (k : ℕ) → Begun Field64 2 (start k)
 unfolding emptyOf emptyAnswer paramAnswer paramRules
-begun k = record { inputs = with-dimension 2; found = 77 ∷ 18446744069414584329 ∷ []; long = refl; call = refl; none = refl }
+begun k = record { inputs = with-dimension 2; found = 77 ∷ 18446744069414584329 ∷ []; long = refl; call = refl; none = λ r. refl }
 
 field-row : (a b : ℕ) → a < p64 → b < p64 → FieldRow p64 2 (a ∷ b ∷ [])
 field-row a b h k = record { long = refl; below = (h, (k, tt)) }
@@ -60,31 +64,95 @@ second-cut = record {
   number = λ j. negsuc 2;
 }
 
--- aggregate 0 gathers the shares of one side over aggregate 7, with a share too long, one with an element p, other inputs and a wrong dimension in between
+-- what holds of the rows of a list, and of every other row, holds of every row
+by-rows : (P : List ℕ → Type 0) (r : List ℕ) (rows : List (List ℕ)) → Each P rows → (Each (λ x. eqRow x r ≡ false) rows → P r) → P r
+by-rows P r [] f g = g tt
+by-rows P r (x ∷ rows) f g = go (eqRow x r) refl (λ e. by-rows P r rows (f .1) (λ h. g (e, h)))
+  where
+    go : (t : Bool) → eqRow x r ≡ t → (eqRow x r ≡ false → P r) → P r
+    go true e k = subst P (eqRow-true x r e) (f .0)
+    go false e k = k e
+
+joins : (t u : Tally) (parts rows : List (List ℕ)) → Each (λ r. t r +ℤ u r ≡ pos (count r parts)) rows → ((r : List ℕ) → Each (λ x. eqRow x r ≡ false) rows → t r +ℤ u r ≡ pos (count r parts)) → Joined t u parts
+joins t u parts rows f g r = by-rows (λ r. t r +ℤ u r ≡ pos (count r parts)) r rows f (g r)
+
+abbrev a-row : (a b : ℕ) → List ℕ
+a-row a b = a ∷ b ∷ []
+
+-- aggregate 0 gathers the shares of one side over aggregate 7, with a share too long, one with an element p, other inputs and a wrong dimension in between; a share is added and taken out,
+-- and one, never added there, taken out that aggregate 1 holds; aggregate 7 comes in twice and goes once
 abbrev calls : List Call
 calls =
-    Call.accumulate 0 (with-dimension 2) (3 ∷ 4 ∷ [])
+    Call.accumulate 0 (with-dimension 2) (a-row 3 4)
     ∷ Call.empty 0 (with-dimension 3)
     ∷ Call.empty 0 (with-dimension 2)
     ∷ Call.accumulate 0 (with-dimension 2) (1 ∷ 2 ∷ 3 ∷ [])
-    ∷ Call.accumulate 0 (with-dimension 2) (1 ∷ 18446744069414584321 ∷ [])
-    ∷ Call.accumulate 7 (with-dimension 2) (1 ∷ 18446744069414584320 ∷ [])
-    ∷ Call.accumulate 7 (with-dimension 2) (10 ∷ 5 ∷ [])
+    ∷ Call.accumulate 0 (with-dimension 2) (a-row 1 18446744069414584321)
+    ∷ Call.accumulate 0 (with-dimension 2) (a-row 8 9)
+    ∷ Call.subtract 0 (with-dimension 2) (a-row 5 6)
+    ∷ Call.accumulate 7 (with-dimension 2) (a-row 1 18446744069414584320)
+    ∷ Call.merge 0 (with-dimension 2) 7
+    ∷ Call.unmerge 0 (with-dimension 2) 7
+    ∷ Call.accumulate 7 (with-dimension 2) (a-row 10 5)
     ∷ Call.merge 0 (with-dimension 2) 7
     ∷ Call.merge 0 (with-dimension 0) 7
-    ∷ Call.accumulate 1 (with-dimension 2) (18446744069414584308 ∷ 0 ∷ [])
-    ∷ Call.accumulate 1 (with-dimension 2) (18446744069414584317 ∷ 6 ∷ [])
+    ∷ Call.subtract 0 (with-dimension 0) (a-row 10 5)
+    ∷ Call.subtract 0 (with-dimension 2) (a-row 8 9)
+    ∷ Call.accumulate 1 (with-dimension 2) (a-row 18446744069414584308 0)
+    ∷ Call.accumulate 1 (with-dimension 2) (a-row 5 6)
+    ∷ Call.accumulate 1 (with-dimension 2) (a-row 18446744069414584317 6)
     ∷ []
 
-run-0 : run Field64 start calls 0 ≡ record { row = 11 ∷ 4 ∷ []; tally = (1 ∷ 18446744069414584320 ∷ []) ∷ (10 ∷ 5 ∷ []) ∷ [] }
-unfolding run step emptyOf emptyAnswer accumulateOf accumulateAnswer paramAnswer paramRules
-run-0 = refl
+record Ran : Type 0 where
+  row-0 : run Field64 start calls 0 .row ≡ a-row 6 18446744069414584319
+  row-1 : run Field64 start calls 1 .row ≡ a-row 18446744069414584309 12
+  -- added once, added and taken out, taken out though never added, refused
+  once : run Field64 start calls 0 .tally (a-row 10 5) ≡ pos 1
+  out : run Field64 start calls 0 .tally (a-row 8 9) ≡ pos 0
+  minus-one : run Field64 start calls 0 .tally (a-row 5 6) ≡ negsuc 0
+  never : run Field64 start calls 0 .tally (a-row 1 18446744069414584321) ≡ pos 0
+  -- cleared by emptying; in another aggregate that came twice and went once; still in that one
+  cleared : run Field64 start calls 0 .tally (a-row 3 4) ≡ pos 0
+  brought-once : run Field64 start calls 0 .tally (a-row 1 18446744069414584320) ≡ pos 1
+  others-own : run Field64 start calls 7 .tally (a-row 1 18446744069414584320) ≡ pos 1
+
+ran : Ran
+unfolding run step emptyOf emptyAnswer accumulateOf accumulateAnswer subtractOf paramAnswer paramRules
+ran = record { row-0 = refl; row-1 = refl; once = refl; out = refl; minus-one = refl; never = refl; cleared = refl; brought-once = refl; others-own = refl }
+
+abbrev parts : List (List ℕ)
+parts = a-row 1 18446744069414584320 ∷ a-row 18446744069414584317 6 ∷ a-row 10 5 ∷ a-row 18446744069414584308 0 ∷ []
+
+-- joined, the two tallies are the shares of the two reports
+joined-tallies : Joined (run Field64 start calls 0 .tally) (run Field64 start calls 1 .tally) parts
+unfolding run step emptyOf emptyAnswer accumulateOf accumulateAnswer subtractOf paramAnswer paramRules
+joined-tallies =
+    joins (run Field64 start calls 0 .tally) (run Field64 start calls 1 .tally) parts (a-row 8 9 ∷ a-row 5 6 ∷ parts) (refl, (refl, (refl, (refl, (refl, (refl, tt)))))) (λ r e. rw (e .0, e .1 .0, e .1 .1 .0, e .1 .1 .1 .0, e .1 .1 .1 .1 .0, e .1 .1 .1 .1 .1 .0))
 
 -- by the theorem: element 0 of the two aggregates reads as -3 + -3
 reads-0 : centredNumber p64 (getD (addRows p64 (run Field64 start calls 0 .row) (run Field64 start calls 1 .row)) 0 0) ≡ negsuc 5
-unfolding run step emptyOf emptyAnswer accumulateOf accumulateAnswer paramAnswer paramRules sumℤ modP
-reads-0 =
-    aggregation Field64 (omega arith) 2 start begun calls (second-cut ∷ first-cut ∷ []) .reads 0 1 ∣ List·Permᴰ·cons refl (Permᴰ·middle (18446744069414584317 ∷ 6 ∷ []) ((10 ∷ 5 ∷ []) ∷ (18446744069414584308 ∷ 0 ∷ []) ∷ []) []) ∣₁ 0 (omega arith) (refl, (refl, tt)) (omega arith)
+unfolding sumℤ modP
+reads-0 = aggregation Field64 (omega arith) 2 start begun calls (second-cut ∷ first-cut ∷ []) .reads 0 1 joined-tallies 0 (omega arith) (refl, (refl, tt)) (omega arith)
+
+seven : _≡_ {A = ℕ} 7 0 → ⊥
+seven e = omega arith
+
+-- a share added, and withdrawn after calls on this aggregate and others, one of them a refused emptying: by the law, as if neither had been made
+undone : run Field64 start (Call.accumulate 0 (with-dimension 2) (a-row 8 9) ∷ Call.merge 0 (with-dimension 2) 7 ∷ Call.empty 0 (with-dimension 3) ∷ Call.empty 1 (with-dimension 2) ∷ Call.subtract 0 (with-dimension 2) (a-row 8 9) ∷ Call.merge 1 (with-dimension 2) 0 ∷ [])
+    ≡ run Field64 start (Call.merge 0 (with-dimension 2) 7 ∷ Call.empty 0 (with-dimension 3) ∷ Call.empty 1 (with-dimension 2) ∷ Call.merge 1 (with-dimension 2) 0 ∷ [])
+unfolding emptyOf emptyAnswer accumulateOf accumulateAnswer paramAnswer paramRules
+undone =
+    withdrawal .calls Field64 (omega arith) 2 start begun 0 [] (Call.merge 0 (with-dimension 2) 7 ∷ Call.empty 0 (with-dimension 3) ∷ Call.empty 1 (with-dimension 2) ∷ []) (Call.merge 1 (with-dimension 2) 0 ∷ [])
+    (λ _ e. omega arith, (λ q. absurd (seven (ap (λ (a : Answer). a .number) q)), (λ _ e. omega arith, tt))) .withdrawn (with-dimension 2) (with-dimension 2) (a-row 8 9) refl refl
+
+-- an aggregate added, and an equal row taken out as a share, after a call on that other aggregate: by the law, the rows are as if neither had been made
+row-undone : (n : ℕ)
+    → run Field64 start (Call.accumulate 7 (with-dimension 2) (a-row 8 9) ∷ Call.merge 0 (with-dimension 2) 7 ∷ Call.accumulate 7 (with-dimension 2) (a-row 1 2) ∷ Call.subtract 0 (with-dimension 2) (a-row 8 9) ∷ []) n .row
+    ≡ run Field64 start (Call.accumulate 7 (with-dimension 2) (a-row 8 9) ∷ Call.accumulate 7 (with-dimension 2) (a-row 1 2) ∷ []) n .row
+unfolding run step accumulateOf accumulateAnswer paramAnswer paramRules
+row-undone =
+    withdrawal .calls Field64 (omega arith) 2 start begun 0 (Call.accumulate 7 (with-dimension 2) (a-row 8 9) ∷ []) (Call.accumulate 7 (with-dimension 2) (a-row 1 2) ∷ []) [] (tt, tt)
+    .row-withdrawn (Call.merge 0 (with-dimension 2) 7) (Call.subtract 0 (with-dimension 2) (a-row 8 9)) (a-row 8 9) (refl, refl, refl) (refl, refl, refl)
 
 -- ---- a report, cut in two: the first row of the table of worked examples
 
@@ -118,18 +186,31 @@ a-report = record {
 }
 
 abbrev empties : Aggregates
-empties k = record { row = replicate 4 0; tally = [] }
+empties k = record { row = replicate 4 0; tally = nothing }
 
 empties-begun : (k : ℕ) → Begun Field64 4 (empties k)
 unfolding emptyOf emptyAnswer paramAnswer paramRules
-empties-begun k = record { inputs = inputs; found = replicate 4 9; long = refl; call = refl; none = refl }
+empties-begun k = record { inputs = inputs; found = replicate 4 9; long = refl; call = refl; none = λ r. refl }
 
--- both shares added, each to an aggregate of its own, after a share that is refused
+-- both shares added, each to an aggregate of its own, after a share that is refused; those of another report added before and withdrawn after
 abbrev report-calls : List Call
-report-calls = Call.accumulate 0 inputs (1 ∷ 2 ∷ 3 ∷ p64 ∷ []) ∷ Call.accumulate 0 inputs (take 4 left-side) ∷ Call.accumulate 1 inputs (take 4 right-side) ∷ []
+report-calls =
+    Call.accumulate 0 inputs (1 ∷ 2 ∷ 3 ∷ p64 ∷ [])
+    ∷ Call.accumulate 0 inputs (1 ∷ 2 ∷ 3 ∷ 4 ∷ [])
+    ∷ Call.accumulate 1 inputs (5 ∷ 6 ∷ 7 ∷ 8 ∷ [])
+    ∷ Call.accumulate 0 inputs (take 4 left-side)
+    ∷ Call.accumulate 1 inputs (take 4 right-side)
+    ∷ Call.subtract 1 inputs (5 ∷ 6 ∷ 7 ∷ 8 ∷ [])
+    ∷ Call.subtract 0 inputs (1 ∷ 2 ∷ 3 ∷ 4 ∷ [])
+    ∷ []
 
--- by the theorem: the decoded coordinate 0 is 1.0, and coordinate 1 is +0, whatever the row held
+joined-report : Joined (run Field64 empties report-calls 0 .tally) (run Field64 empties report-calls 1 .tally) (take 4 left-side ∷ take 4 right-side ∷ [])
+unfolding run step accumulateOf accumulateAnswer subtractOf paramAnswer paramRules
+joined-report =
+    joins (run Field64 empties report-calls 0 .tally) (run Field64 empties report-calls 1 .tally) (take 4 left-side ∷ take 4 right-side ∷ []) ((1 ∷ 2 ∷ 3 ∷ 4 ∷ []) ∷ (5 ∷ 6 ∷ 7 ∷ 8 ∷ []) ∷ take 4 left-side ∷ take 4 right-side ∷ []) (refl, (refl, (refl, (refl, tt)))) (λ r e. rw (e .0, e .1 .0, e .1 .1 .0, e .1 .1 .1 .0))
+
+-- by the theorem: the decoded coordinate 0 is 1.0, whatever the row held
 decoded-sum : getD (unshardOf Field64 inputs (run Field64 empties report-calls 0 .row) (run Field64 empties report-calls 1 .row) (large ∷ large ∷ large ∷ large ∷ []) .row) 0 plusZero ≡ one
-unfolding run step accumulateOf accumulateAnswer paramAnswer paramRules sumℤ floorOf floorDiv ofBits ofInt div round a-report
+unfolding paramAnswer paramRules sumℤ floorOf floorDiv ofBits ofInt div round a-report
 decoded-sum =
-    correctness-64 inputs refl empties empties-begun report-calls (a-report ∷ []) .decoded 0 1 ∣ List·Permᴰ·cons refl (List·Permᴰ·cons refl List·Permᴰ·nil) ∣₁ (large ∷ large ∷ large ∷ large ∷ []) refl .at 0 (omega arith) (lit≤ tt, tt) (lit≤ tt)
+    correctness-64 inputs refl empties empties-begun report-calls (a-report ∷ []) .decoded 0 1 joined-report (large ∷ large ∷ large ∷ large ∷ []) refl .at 0 (omega arith) (lit≤ tt, tt) (lit≤ tt)

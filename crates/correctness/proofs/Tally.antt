@@ -1,33 +1,75 @@
--- After every list of calls each aggregate is the sum of its tally. Assumes nothing.
-use mathlib.Core.Path.{_≡_, refl, sym, ap, subst, _∙_}
+-- After every list of calls each aggregate is the field sum of the rows of its tally, each times its number. Assumes nothing.
+use mathlib.Core.Path.{_≡_, refl, sym, ap, _∙_, fun-ext}
 use mathlib.Core.Bool.{Bool, true, false, cond}
-use mathlib.Core.List.{List, [], _∷_, _++_, map, map-append}
-use Prim.Native.Nat.{ℕ, _<_}
-use native.Mathlib.Nat.{mod-eq-of-lt, add-zero}
+use mathlib.Core.List.{List, [], _∷_, _++_}
+use Prim.Native.Nat.{ℕ, zero, suc, _+_, _*_, _%_, _<_, _≤_}
+use native.Mathlib.Nat.{mod-eq-of-lt, le-of-lt}
 use native.Mathlib.Omega.{arith}
 use lib.ListN.{length, getD, replicate, length-replicate, getD-replicate}
+use lib.Seq.{ext-getD}
+use lib.IntN.{ℤ, pos, negsuc, negℤ, _+ℤ_, _-ℤ_}
 use lib.Dec.{eqb}
 use borrow.Author.Tests.{eqb-true, eq-eqb}
 use Rattle.rules.specs.declared.Answer.{Answer}
-use Rattle.field64.specs.Field.{addMod}
+use Rattle.field64.specs.Field.{addMod, subMod, mulMod}
 use Rattle.field64.specs.Sums.{evaluate, total}
-use Rattle.field64.proofs.Sums.{total-cons, total-append}
+use Rattle.field64.proofs.Modular.{modular, add-both, mul-both, cancel, sub-add}
+use Rattle.field64.proofs.Sums.{evaluate-below, total-cons}
+use Rattle.doubles.specs.Doubles.{modP}
 use Rattle.pine.specs.declared.PineParam.{PineParam}
 use Rattle.pine.specs.Param.{Field}
-use Rattle.rows.specs.Rows.{Below, addRows}
-use Rattle.rows.specs.Outcome.{Outcome, outcome, finish}
+use Rattle.rows.specs.Rows.{addRows, subRows}
+use Rattle.rows.specs.Outcome.{Outcome, finish}
 use Rattle.rows.proofs.Elements.{below-all, below-at}
-use Rattle.rows.proofs.Added.{length-addRows, getD-addRows, add-below}
-use Rattle.vdaf.specs.Aggregates.{emptyAnswer, emptyOf, accumulateAnswer, accumulateOf}
-use Rattle.vdaf.proofs.Accepted.{TwoRows, emptied, added}
-use Rattle.correctness.specs.Tally.{Aggregate, Aggregates, Call, after, put, step, run, Begun, FieldRow, Each, column, Tallied}
+use Rattle.rows.proofs.ByElement.{length-by, getD-by}
+use Rattle.rows.proofs.Added.{add-below, sub-below}
+use Rattle.vdaf.specs.Aggregates.{emptyAnswer, emptyOf, accumulateAnswer, accumulateOf, subtractOf}
+use Rattle.vdaf.proofs.Accepted.{emptied, added}
+use Rattle.correctness.specs.Tally.{eqRow, count, Tally, brought, taken, Aggregate, Aggregates, alone, Call, after, put, adding, taking, step, run, Begun, FieldRow, Each, weighed, Tallied}
+use Rattle.correctness.proofs.Counts.{column, one-if, count-append, different, different-once, each-different, covered, once-of, sumOver, sumOver-append, total-over, by-counts, same-counts}
+use Rattle.correctness.proofs.Centred.{plus, minus, sum-parts, modP-parts}
 
-pub each-append : {A : Type 0} (P : A → Type 0) (xs ys : List A) → Each P xs → Each P ys → Each P (xs ++ ys)
+each-append : {A : Type 0} (P : A → Type 0) (xs ys : List A) → Each P xs → Each P ys → Each P (xs ++ ys)
 each-append P [] ys f g = g
 each-append P (x ∷ xs) ys f g = (f .0, each-append P xs ys (f .1) g)
 
-abbrev aggregate : List ℕ → List (List ℕ) → Aggregate
+abbrev aggregate : List ℕ → Tally → Aggregate
 aggregate r t = record { row = r; tally = t }
+
+-- element j of a row
+abbrev pub at : (j : ℕ) → List ℕ → ℕ
+at j r = getD r j 0
+
+-- ---- z is a - b
+abbrev pub Differs : (z : ℤ) (a b : ℕ) → Type 0
+Differs z a b = plus z + b ≡ minus z + a
+
+opposite : (z : ℤ) → (plus (negℤ z) ≡ minus z) × (minus (negℤ z) ≡ plus z)
+opposite (pos zero) = (refl, refl)
+opposite (pos (suc n)) = (refl, refl)
+opposite (negsuc n) = (refl, refl)
+
+differs-plus : (y z : ℤ) (a b c d : ℕ) → Differs y a b → Differs z c d → Differs (y +ℤ z) (a + c) (b + d)
+differs-plus y z a b c d e f = omega (arith, sum-parts y z)
+
+differs-less : (y z : ℤ) (a b c d : ℕ) → Differs y a b → Differs z c d → Differs (y -ℤ z) (a + d) (b + c)
+differs-less y z a b c d e f = omega (arith, sum-parts y (negℤ z), opposite z .0, opposite z .1)
+
+differs-zero : (z : ℤ) → Differs z 0 0 → z ≡ pos 0
+differs-zero (pos n) e = ap pos (omega arith)
+differs-zero (negsuc n) e = absurd (omega arith)
+
+module _ (p d : ℕ) where
+  -- what makes an aggregate: the rows added and the rows taken out, of d field numbers. A row's number is how often it is among the first less how often among the second, and
+  -- each element with that of the second added is that of the first
+  pub record Backed (a : Aggregate) : Type 0 where
+    pub row : FieldRow p d (a .row)
+    pub adds : List (List ℕ)
+    pub takes : List (List ℕ)
+    pub adds-rows : Each (FieldRow p d) adds
+    pub takes-rows : Each (FieldRow p d) takes
+    pub numbers : (r : List ℕ) → Differs (a .tally r) (count r adds) (count r takes)
+    pub sums : (j : ℕ) → j < d → (at j (a .row) + sumOver (at j) takes) % p ≡ sumOver (at j) adds % p
 
 module _ (p d : ℕ) (positive : 0 < p) where
   pub zero-row : FieldRow p d (replicate d 0)
@@ -37,43 +79,200 @@ module _ (p d : ℕ) (positive : 0 < p) where
   }
 
   -- d zeros, of no rows
-  pub zeros : (n : ℕ) → n ≡ d → Tallied p d (aggregate (replicate n 0) [])
-  unfolding evaluate
-  zeros n e = record {
+  pub zeros : (r : List ℕ) (t : Tally) → r ≡ replicate d 0 → ((s : List ℕ) → t s ≡ pos 0) → Backed p d (aggregate r t)
+  zeros r t e f = record {
     row = rw e zero-row;
-    sums = λ j h. getD-replicate {A = ℕ} n j 0 0 (omega arith);
-    rows = tt;
+    adds = [];
+    takes = [];
+    adds-rows = tt;
+    takes-rows = tt;
+    numbers = λ s. rw (f s);
+    sums = λ j h. rw (e, getD-replicate {A = ℕ} d j 0 0 h);
   }
 
   -- a row of field numbers, of itself
-  pub alone : (r : List ℕ) → FieldRow p d r → Tallied p d (aggregate r (r ∷ []))
-  unfolding evaluate
-  alone r f = record {
+  pub itself : (r : List ℕ) → FieldRow p d r → Backed p d (alone r)
+  itself r f = record {
     row = f;
-    sums = λ j h. sym (total-cons p positive (getD r j 0) [] ∙ rw add-zero (mod-eq-of-lt (below-at p r (f .below) j (omega (arith, f .long)))));
-    rows = (f, tt);
+    adds = r ∷ [];
+    takes = [];
+    adds-rows = (f, tt);
+    takes-rows = tt;
+    numbers = λ s. go (eqRow r s);
+    sums = λ j h. refl;
   }
+    where
+      go : (t : Bool) → Differs (cond t (pos 1) (pos 0)) (one-if t + 0) 0
+      go true = refl
+      go false = refl
 
-  pub sum : (a b : Aggregate) → Tallied p d a → Tallied p d b → Tallied p d (aggregate (addRows p (a .row) (b .row)) (a .tally ++ b .tally))
-  sum a b f g =
-      let l : length (a .row) ≡ length (b .row) = f .row .long ∙ sym (g .row .long) in
-      record {
-        row = record { long = length-addRows p (a .row) (b .row) l ∙ f .row .long; below = add-below p positive (a .row) (b .row) };
-        sums = λ j h. getD-addRows p (a .row) (b .row) j l (omega (arith, f .row .long))
-            ∙ rw (f .sums j h, g .sums j h, map-append (λ (r : List ℕ). getD r j 0) (a .tally) (b .tally)) (sym (total-append p positive (column j (a .tally)) (column j (b .tally))));
-        rows = each-append _ (a .tally) (b .tally) (f .rows) (g .rows);
-      }
+  module _ (a b : Aggregate) (f : Backed p d a) (g : Backed p d b) where
+    same-long : length (a .row) ≡ length (b .row)
+    same-long = f .row .long ∙ sym (g .row .long)
 
-  pub finished : (a : Aggregate) (x : Answer) (done : List ℕ) (new : List (List ℕ)) → Tallied p d a → (x .number ≡ 0 → Tallied p d (aggregate done new)) → Tallied p d (after a (finish x done (a .row)) new)
+    pub sum : Backed p d (aggregate (addRows p (a .row) (b .row)) (brought (a .tally) (b .tally)))
+    sum = record {
+      row = record { long = length-by (addMod p) (a .row) (b .row) same-long ∙ f .row .long; below = add-below p positive (a .row) (b .row) };
+      adds = f .adds ++ g .adds;
+      takes = f .takes ++ g .takes;
+      adds-rows = each-append _ (f .adds) (g .adds) (f .adds-rows) (g .adds-rows);
+      takes-rows = each-append _ (f .takes) (g .takes) (f .takes-rows) (g .takes-rows);
+      numbers = λ r. rw (count-append r (f .adds) (g .adds), count-append r (f .takes) (g .takes)) (differs-plus (a .tally r) (b .tally r) _ _ _ _ (f .numbers r) (g .numbers r));
+      sums = λ j h.
+          let l : j < length (a .row) = omega (arith, f .row .long) in
+          rw (getD-by (addMod p) (a .row) (b .row) j same-long l, sumOver-append (at j) (f .adds) (g .adds), sumOver-append (at j) (f .takes) (g .takes))
+          (added-up (at j (a .row)) (at j (b .row)) _ _ _ _ (f .sums j h) (g .sums j h));
+    }
+      where
+        added-up : (x y b d a c : ℕ) → (x + b) % p ≡ a % p → (y + d) % p ≡ c % p → (addMod p x y + (b + d)) % p ≡ (a + c) % p
+        added-up x y b d a c e f =
+            let q : x + y + (b + d) ≡ (x + b) + (y + d) = omega arith in
+            simp modular (ap (λ (n : ℕ). n % p) q ∙ add-both p (x + b) a (y + d) c e f)
+
+    pub difference : Backed p d (aggregate (subRows p (a .row) (b .row)) (taken (a .tally) (b .tally)))
+    difference = record {
+      row = record { long = length-by (subMod p) (a .row) (b .row) same-long ∙ f .row .long; below = sub-below p positive (a .row) (b .row) };
+      adds = f .adds ++ g .takes;
+      takes = f .takes ++ g .adds;
+      adds-rows = each-append _ (f .adds) (g .takes) (f .adds-rows) (g .takes-rows);
+      takes-rows = each-append _ (f .takes) (g .adds) (f .takes-rows) (g .adds-rows);
+      numbers = λ r. rw (count-append r (f .adds) (g .takes), count-append r (f .takes) (g .adds)) (differs-less (a .tally r) (b .tally r) _ _ _ _ (f .numbers r) (g .numbers r));
+      sums = λ j h.
+          let l : j < length (a .row) = omega (arith, f .row .long) in
+          let k : j < length (b .row) = omega (arith, g .row .long) in
+          rw (getD-by (subMod p) (a .row) (b .row) j same-long l, sumOver-append (at j) (f .adds) (g .takes), sumOver-append (at j) (f .takes) (g .adds))
+          (taken-off (at j (a .row)) (at j (b .row)) _ _ _ _ (le-of-lt (below-at p (b .row) (g .row .below) j k)) (f .sums j h) (g .sums j h));
+    }
+      where
+        -- with y added on both sides
+        taken-off : (x y b d a c : ℕ) → y ≤ p → (x + b) % p ≡ a % p → (y + d) % p ≡ c % p → (subMod p x y + (b + c)) % p ≡ (a + d) % p
+        taken-off x y b d a c l e f =
+            let q : subMod p x y + (b + c) + y ≡ (subMod p x y + y) + (b + c) = omega arith in
+            let u : x + (b + c) ≡ (x + b) + c = omega arith in
+            let v : a + (y + d) ≡ (a + d) + y = omega arith in
+            cancel p positive (subMod p x y + (b + c)) (a + d) y
+            (ap (λ (n : ℕ). n % p) q
+            ∙ add-both p (subMod p x y + y) x (b + c) (b + c) (sub-add p positive x y l) refl
+            ∙ ap (λ (n : ℕ). n % p) u
+            ∙ add-both p (x + b) a c (y + d) e (sym f)
+            ∙ ap (λ (n : ℕ). n % p) v)
+
+  -- ---- the sum over the rows, each times its number
+
+  -- a number of times: z is a - b, so g times z modulo p and b times g is a times g
+  times : (z : ℤ) (a b g : ℕ) → Differs z a b → (modP p z * g + b * g) % p ≡ (a * g) % p
+  times z a b g e =
+      let q : modP p z + b + minus z ≡ (modP p z + minus z) + b = omega arith in
+      let u : plus z + b ≡ a + minus z = omega arith in
+      let h : (modP p z + b) % p ≡ a % p = cancel p positive (modP p z + b) a (minus z) (ap (λ (n : ℕ). n % p) q ∙ add-both p (modP p z + minus z) (plus z) b b (modP-parts p positive z) refl ∙ ap (λ (n : ℕ). n % p) u) in
+      let w : modP p z * g + b * g ≡ (modP p z + b) * g = omega arith in
+      ap (λ (n : ℕ). n % p) w ∙ mul-both p (modP p z + b) a g g h refl
+
+  all-times : (t : Tally) (j : ℕ) (a b : List ℕ → ℕ) → ((r : List ℕ) → Differs (t r) (a r) (b r)) → (s : List (List ℕ))
+      → (total p (weighed p t j s) + sumOver (λ r. b r * at j r) s) % p ≡ sumOver (λ r. a r * at j r) s % p
+  unfolding evaluate
+  all-times t j a b e [] = refl
+  all-times t j a b e (r ∷ s) =
+      let w : ℕ = modP p (t r) * at j r in
+      let W = total p (weighed p t j s) in
+      let B = sumOver (λ r. b r * at j r) s in
+      let q : w + W + (b r * at j r + B) ≡ (w + b r * at j r) + (W + B) = omega arith in
+      rw (total-cons p positive (mulMod p (modP p (t r)) (at j r)) (weighed p t j s)) (simp modular (ap (λ (n : ℕ). n % p) q ∙ add-both p (w + b r * at j r) (a r * at j r) (W + B) _ (times (t r) (a r) (b r) (at j r) (e r)) (all-times t j a b e s)))
+
+  pub tallied-of : (a : Aggregate) → Backed p d a → Tallied p d a
+  tallied-of a f = record {
+    row = f .row;
+    rows = s;
+    fields = each-different (FieldRow p d) all (each-append _ (f .adds) (f .takes) (f .adds-rows) (f .takes-rows));
+    different = λ r. different-once r all .0;
+    others = λ r h.
+        let z : count r (f .adds) + count r (f .takes) ≡ 0 = sym (count-append r (f .adds) (f .takes)) ∙ different-once r all .1 h in
+        differs-zero (a .tally r) (omega (arith, f .numbers r));
+    sums = λ j h.
+        let W = total p (weighed p (a .tally) j s) in
+        let q : (W + sumOver (at j) (f .takes)) % p ≡ sumOver (at j) (f .adds) % p =
+        ap (λ (n : ℕ). (W + n) % p) (sym (by-counts (at j) s (f .takes) (covered s (f .takes) (λ r l. on r (omega (arith, count-append r (f .adds) (f .takes)))))))
+        ∙ all-times (a .tally) j (λ r. count r (f .adds)) (λ r. count r (f .takes)) (f .numbers) s
+        ∙ ap (λ (n : ℕ). n % p) (by-counts (at j) s (f .adds) (covered s (f .adds) (λ r l. on r (omega (arith, count-append r (f .adds) (f .takes)))))) in
+        let l : at j (a .row) < p = below-at p (a .row) (f .row .below) j (omega (arith, f .row .long)) in
+        sym (mod-eq-of-lt l) ∙ cancel p positive (at j (a .row)) W (sumOver (at j) (f .takes)) (f .sums j h ∙ sym q) ∙ mod-eq-of-lt (evaluate-below p 1 positive (weighed p (a .tally) j s));
+  }
+    where
+      all : List (List ℕ)
+      all = f .adds ++ f .takes
+
+      s : List (List ℕ)
+      s = different all
+
+      on : (r : List ℕ) → 0 < count r all → count r s ≡ 1
+      on r h = once-of r s all (different-once r all) h
+
+  -- ---- an aggregate's row goes by its tally
+
+  -- where the tally counts the rows of a list, each element is the sum of that element over the list
+  pub of-rows : (a : Aggregate) → Backed p d a → (rows : List (List ℕ)) → ((r : List ℕ) → a .tally r ≡ pos (count r rows)) → (j : ℕ) → j < d → at j (a .row) ≡ total p (column j rows)
+  of-rows a f rows e j h =
+      let l : at j (a .row) < p = below-at p (a .row) (f .row .below) j (omega (arith, f .row .long)) in
+      let c : sumOver (at j) (f .adds) ≡ sumOver (at j) rows + sumOver (at j) (f .takes) = same-counts (at j) (f .adds) (rows ++ f .takes) counts ∙ sumOver-append (at j) rows (f .takes) in
+      sym (mod-eq-of-lt l)
+      ∙ cancel p positive (at j (a .row)) (sumOver (at j) rows) (sumOver (at j) (f .takes)) (f .sums j h ∙ ap (λ (n : ℕ). n % p) c)
+      ∙ sym (total-over (at j) p positive rows)
+    where
+      counts : (r : List ℕ) → count r (f .adds) ≡ count r (rows ++ f .takes)
+      counts r = rw (count-append r rows (f .takes)) (omega (arith, f .numbers r, ap plus (e r), ap minus (e r)))
+
+  pub determined : (a b : Aggregate) → Backed p d a → Backed p d b → ((r : List ℕ) → a .tally r ≡ b .tally r) → a ≡ b
+  determined a b f g e = λ i. record { row = rows i; tally = fun-ext e i }
+    where
+      counts : (r : List ℕ) → count r (f .adds ++ g .takes) ≡ count r (g .adds ++ f .takes)
+      counts r = rw (count-append r (f .adds) (g .takes), count-append r (g .adds) (f .takes)) (omega (arith, f .numbers r, g .numbers r, ap plus (e r), ap minus (e r)))
+
+      elements : (j : ℕ) → j < d → at j (a .row) ≡ at j (b .row)
+      elements j h =
+          let l : at j (a .row) < p = below-at p (a .row) (f .row .below) j (omega (arith, f .row .long)) in
+          let k : at j (b .row) < p = below-at p (b .row) (g .row .below) j (omega (arith, g .row .long)) in
+          let S = sumOver (at j) in
+          let c : S (f .adds) + S (g .takes) ≡ S (g .adds) + S (f .takes) = sym (sumOver-append (at j) (f .adds) (g .takes)) ∙ same-counts (at j) (f .adds ++ g .takes) (g .adds ++ f .takes) counts ∙ sumOver-append (at j) (g .adds) (f .takes) in
+          let u : at j (a .row) + (S (f .takes) + S (g .takes)) ≡ (at j (a .row) + S (f .takes)) + S (g .takes) = omega arith in
+          let v : (at j (b .row) + S (g .takes)) + S (f .takes) ≡ at j (b .row) + (S (f .takes) + S (g .takes)) = omega arith in
+          sym (mod-eq-of-lt l)
+          ∙ cancel p positive (at j (a .row)) (at j (b .row)) (S (f .takes) + S (g .takes))
+          (ap (λ (n : ℕ). n % p) u
+          ∙ add-both p _ (S (f .adds)) (S (g .takes)) (S (g .takes)) (f .sums j h) refl
+          ∙ ap (λ (n : ℕ). n % p) c
+          ∙ add-both p (S (g .adds)) _ (S (f .takes)) (S (f .takes)) (sym (g .sums j h)) refl
+          ∙ ap (λ (n : ℕ). n % p) v)
+          ∙ mod-eq-of-lt k
+
+      rows : a .row ≡ b .row
+      rows = ext-getD 0 (a .row) (b .row) (f .row .long ∙ sym (g .row .long)) (λ j h. elements j (omega (arith, f .row .long)))
+
+  finished : (a : Aggregate) (x : Answer) (done : List ℕ) (new : Tally) → Backed p d a → (x .number ≡ 0 → Backed p d (aggregate done new)) → Backed p d (after a (finish x done (a .row)) new)
   finished a x done new f g = go (eqb (x .number) 0) refl
     where
-      go : (t : Bool) → eqb (x .number) 0 ≡ t → Tallied p d (aggregate (cond t done (a .row)) (cond t new (a .tally)))
+      go : (t : Bool) → eqb (x .number) 0 ≡ t → Backed p d (aggregate (cond t done (a .row)) (cond t new (a .tally)))
       go true e = g (eqb-true _ _ e)
       go false e = f
 
 module _ (F : Field) (d : ℕ) (positive : 0 < F .p) where
-  abbrev Good : Aggregate → Type 0
-  Good a = Tallied (F .p) d a
+  abbrev pub Good : Aggregate → Type 0
+  Good a = Backed (F .p) d a
+
+  -- an aggregate to which a row was added, or from which it was taken
+  module _ (a : Aggregate) (i : PineParam) (f : Good a) where
+    pub added-to : (b : Aggregate) → (accumulateAnswer F i (a .row) (b .row) .number ≡ 0 → Good b) → Good (adding F a i b)
+    unfolding accumulateOf
+    added-to b g = finished (F .p) d positive a (accumulateAnswer F i (a .row) (b .row)) _ _ f (λ z. sum (F .p) d positive a b f (g z))
+
+    pub taken-from : (b : Aggregate) → (accumulateAnswer F i (a .row) (b .row) .number ≡ 0 → Good b) → Good (taking F a i b)
+    unfolding subtractOf
+    taken-from b g = finished (F .p) d positive a (accumulateAnswer F i (a .row) (b .row)) _ _ f (λ z. difference (F .p) d positive a b f (g z))
+
+    -- a row that a call with these inputs accepted as the share
+    pub share-row : (r : List ℕ) → accumulateAnswer F i (a .row) r .number ≡ 0 → Good (alone r)
+    share-row r z =
+        let t = added F i (a .row) r z in
+        itself (F .p) d positive r (record { long = t .right-long ∙ sym (t .left-long) ∙ f .row .long; below = t .right-below })
 
   module _ (s : Aggregates) (f : (k : ℕ) → Good (s k)) where
     stored : (k : ℕ) (a : Aggregate) → Good a → (n : ℕ) → Good (put s k a n)
@@ -83,32 +282,27 @@ module _ (F : Field) (d : ℕ) (positive : 0 < F .p) where
         go true = g
         go false = f n
 
-    -- a row that a call with these inputs accepted as the share
-    taken : (k : ℕ) (i : PineParam) (r : List ℕ) → accumulateAnswer F i (s k .row) r .number ≡ 0 → FieldRow (F .p) d r
-    taken k i r z =
-        let t = added F i (s k .row) r z in
-        record { long = t .right-long ∙ sym (t .left-long) ∙ f k .row .long; below = t .right-below }
+    pub stepped : (c : Call) (n : ℕ) → Good (step F s c n)
+    unfolding step emptyOf
+    stepped (Call.empty k i) = stored k _ (finished (F .p) d positive (s k) (emptyAnswer F i (s k .row)) _ _ (f k) (λ z. zeros (F .p) d positive _ _ (ap (λ (n : ℕ). replicate n 0) (sym (emptied F i (s k .row) z .1) ∙ f k .row .long)) (λ r. refl)))
+    stepped (Call.accumulate k i r) = stored k _ (added-to (s k) i (f k) (alone r) (share-row (s k) i (f k) r))
+    stepped (Call.merge k i m) = stored k _ (added-to (s k) i (f k) (s m) (λ z. f m))
+    stepped (Call.subtract k i r) = stored k _ (taken-from (s k) i (f k) (alone r) (share-row (s k) i (f k) r))
+    stepped (Call.unmerge k i m) = stored k _ (taken-from (s k) i (f k) (s m) (λ z. f m))
 
-    stepped : (c : Call) (n : ℕ) → Good (step F s c n)
-    unfolding step emptyOf accumulateOf
-    stepped (Call.empty k i) = stored k _ (finished (F .p) d positive (s k) (emptyAnswer F i (s k .row)) _ [] (f k) (λ z. zeros (F .p) d positive (i .dimension) (sym (emptied F i (s k .row) z .1) ∙ f k .row .long)))
-    stepped (Call.accumulate k i r) = stored k _ (finished (F .p) d positive (s k) (accumulateAnswer F i (s k .row) r) _ _ (f k) (λ z. sum (F .p) d positive (s k) (aggregate r (r ∷ [])) (f k) (alone (F .p) d positive r (taken k i r z))))
-    stepped (Call.merge k i m) = stored k _ (finished (F .p) d positive (s k) (accumulateAnswer F i (s k .row) (s m .row)) _ _ (f k) (λ z. sum (F .p) d positive (s k) (s m) (f k) (f m)))
-
-  begins : (a : Aggregate) → Begun F d a → Good a
+  pub begins : (a : Aggregate) → Begun F d a → Good a
   unfolding emptyOf
   begins a b =
       let i = b .inputs in
       let z : emptyAnswer F i (b .found) .number ≡ 0 = ap (λ (o : Outcome). o .answer .number) (b .call) in
       let r : replicate (i .dimension) 0 ≡ a .row = rw (eq-eqb _ _ z) at (ap (λ (o : Outcome). o .row) (b .call)) in
-      let e : aggregate (replicate (i .dimension) 0) [] ≡ a = λ t. record { row = r t; tally = sym (b .none) t } in
-      subst Good e (zeros (F .p) d positive (i .dimension) (sym (emptied F i (b .found) z .1) ∙ b .long))
+      zeros (F .p) d positive (a .row) (a .tally) (sym r ∙ ap (λ (n : ℕ). replicate n 0) (sym (emptied F i (b .found) z .1) ∙ b .long)) (b .none)
+
+  pub ran : (s : Aggregates) → ((k : ℕ) → Good (s k)) → (cs : List Call) (k : ℕ) → Good (run F s cs k)
+  unfolding run
+  ran s f [] = f
+  ran s f (c ∷ cs) = ran (step F s c) (stepped s f c) cs
 
   -- after every list of calls, on aggregates each begun by an accepted call
-  pub tallied : (s : Aggregates) → ((k : ℕ) → Begun F d (s k)) → (cs : List Call) (k : ℕ) → Good (run F s cs k)
-  unfolding run
-  tallied s b cs = go s (λ k. begins (s k) (b k)) cs
-    where
-      go : (s : Aggregates) → ((k : ℕ) → Good (s k)) → (cs : List Call) (k : ℕ) → Good (run F s cs k)
-      go s f [] = f
-      go s f (c ∷ cs) = go (step F s c) (stepped s f c) cs
+  pub backed : (s : Aggregates) → ((k : ℕ) → Begun F d (s k)) → (cs : List Call) (k : ℕ) → Good (run F s cs k)
+  backed s b cs = ran s (λ k. begins (s k) (b k)) cs

@@ -3,6 +3,7 @@
 ghost use Rattle.pine.specs.Param.{Field64};
 ghost use Rattle.correctness.specs.Table.{Table};
 ghost use Rattle.correctness.specs.Correctness.{Correctness};
+ghost use Rattle.correctness.specs.Withdrawal.{Withdrawal};
 
 // The worked examples of document 01, "Bench rows", that are marked P.
 pub fn worked_examples()
@@ -13,4 +14,9 @@ pub fn worked_examples()
 // every list of reports, each cut in two in a way of its own.
 pub fn reports_and_aggregates()
     ensures { λ _. ⌜ Correctness Field64 ⌝ }
+{}
+
+// The laws of adding and taking out, of rows over any modulus and of lists of calls over any field.
+pub fn adding_and_taking_out()
+    ensures { λ _. ⌜ Withdrawal ⌝ }
 {}

@@ -276,6 +276,26 @@ pub fn damaged(left: &mut [u64], key: usize) -> Answer
     tested.or(filed)
 }
 
+// The report of a key is withdrawn: each server takes the share that it added out again.
+pub fn withdrawn(left: &mut [u64], right: &mut [u64], key: usize) -> Answer
+    requires { ⌜ key < 24 ⌝ }
+{
+    let mut measurement = [0u64; 96];
+    let mut results = [0u64; 4];
+    let mut left_share = [0u64; 96];
+    let mut right_share = [0u64; 96];
+    report::client(
+        key,
+        &mut measurement,
+        &mut results,
+        &mut left_share,
+        &mut right_share,
+    );
+    let from_left = filing::withdraw(left, key, &left_share);
+    let from_right = filing::withdraw(right, key, &right_share);
+    from_left.or(from_right)
+}
+
 // How many keys' decoded rows equal the true sums.
 pub fn true_keys(left: &[u64], right: &[u64]) -> u64 {
     let mut n = 0;

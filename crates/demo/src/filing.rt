@@ -90,20 +90,50 @@ pub fn merge_valves(total: &mut [u64], aggregates: &[u64], first: usize) -> Answ
     answer
 }
 
-// Adds the gradient of a key to a true sum.
-fn add_gradient(sum: &mut [f64], key: usize) {
+// 8. A grower withdraws: a server takes the gradient part of the share out of the aggregate of its key.
+pub fn withdraw(aggregates: &mut [u64], key: usize, share: &[u64]) -> Answer
+    requires { ⌜ key < 24 ⌝ }
+{
+    let start = key * DIMENSION;
+    let end = start + DIMENSION;
+    if aggregates.len() < end {
+        return short();
+    }
+    if share.len() < DIMENSION {
+        return short();
+    }
+    vdaf::subtract(param(), &mut aggregates[start..end], &share[0..DIMENSION])
+}
+
+// Where that aggregate was merged before, it takes it out of the merged one, too.
+pub fn unmerge_key(total: &mut [u64], aggregates: &[u64], key: usize) -> Answer
+    requires { ⌜ key < 24 ⌝ }
+{
+    let start = key * DIMENSION;
+    let end = start + DIMENSION;
+    if aggregates.len() < end {
+        return short();
+    }
+    vdaf::unmerge(param(), total, &aggregates[start..end])
+}
+
+// Adds the gradient of a key to a true sum, unless it was withdrawn.
+fn add_gradient(sum: &mut [f64], key: usize, withdrawn: usize) {
+    if key == withdrawn {
+        return;
+    }
     let mut gradient = [0.0f64; 4];
     made_up::gradient(key, &mut gradient);
     row::add_doubles(sum, &gradient);
 }
 
-// The true sum over a controller's valves.
-pub fn add_gradients(sum: &mut [f64], first: usize)
+// The true sum over a controller's valves, without the key that was withdrawn, or over all for KEYS.
+pub fn add_gradients(sum: &mut [f64], first: usize, withdrawn: usize)
     requires { ⌜ first ≤ 12 ⌝ }
 {
     let mut valve = 0;
     while valve < VALVES {
-        add_gradient(sum, first + valve);
+        add_gradient(sum, first + valve, withdrawn);
         valve += 1;
     }
 }

@@ -1,5 +1,5 @@
 // A day on the farm, as a tutorial of the library: two controllers with twelve valves each, a report
-// of each valve, two servers. report.rt and filing.rt have the steps of a report, numbered 1 to 7.
+// of each valve, two servers. report.rt and filing.rt have the steps of a report, numbered 1 to 8.
 mod day;
 mod filing;
 mod made_up;
@@ -43,6 +43,13 @@ fn second_day(left: &mut [u64], right: &mut [u64]) {
     );
 }
 
+fn withdrawal(left: &mut [u64], right: &mut [u64]) {
+    print::text(b"controller 1, valve 5 withdraws after the sums have begun\n");
+    table::without(left, right, 4);
+    day::withdrawn(left, right, 4);
+    table::nothing_left(left, right, 4);
+}
+
 fn sums(left: &[u64], right: &[u64]) {
     print::counted(
         day::true_keys(left, right),
@@ -63,4 +70,5 @@ fn main() {
     sums(&left, &right);
     second_day(&mut left, &mut right);
     sums(&left, &right);
+    withdrawal(&mut left, &mut right);
 }

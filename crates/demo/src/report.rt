@@ -90,7 +90,7 @@ pub fn is_valid(key: usize, full: &[u64]) -> bool {
 }
 
 // What the client does: steps 1 and 2.
-fn client(
+pub fn client(
     key: usize,
     measurement: &mut [u64],
     results: &mut [u64],

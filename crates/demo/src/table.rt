@@ -39,19 +39,57 @@ fn valve(left: &[u64], right: &[u64], valve: usize)
     print::text(b"\n");
 }
 
-// All valves of a controller, from the first key on: the merged aggregates of the two servers.
+// The merged aggregates of the two servers, and the true sum over the valves from the first key on.
+fn totals(left_total: &[u64], right_total: &[u64], first: usize, withdrawn: usize)
+    requires { ⌜ first ≤ 12 ⌝ }
+{
+    let mut decoded = [0.0f64; 4];
+    let mut sum = [0.0f64; 4];
+    vdaf::unshard(param(), left_total, right_total, &mut decoded);
+    filing::add_gradients(&mut sum, first, withdrawn);
+    entry(decoded[0], sum[0], row::same_doubles(&decoded, &sum));
+}
+
+// All valves of a controller, from the first key on.
 fn controller(left: &[u64], right: &[u64], first: usize)
     requires { ⌜ first ≤ 12 ⌝ }
 {
     let mut left_total = [0u64; 4];
     let mut right_total = [0u64; 4];
-    let mut decoded = [0.0f64; 4];
-    let mut sum = [0.0f64; 4];
     filing::merge_valves(&mut left_total, left, first);
     filing::merge_valves(&mut right_total, right, first);
-    vdaf::unshard(param(), &left_total, &right_total, &mut decoded);
-    filing::add_gradients(&mut sum, first);
-    entry(decoded[0], sum[0], row::same_doubles(&decoded, &sum));
+    totals(&left_total, &right_total, first, filing::KEYS);
+}
+
+// All valves of controller 1, where a key is withdrawn after they were merged.
+pub fn without(left: &[u64], right: &[u64], withdrawn: usize)
+    requires { ⌜ withdrawn < 24 ⌝ }
+{
+    let mut left_total = [0u64; 4];
+    let mut right_total = [0u64; 4];
+    filing::merge_valves(&mut left_total, left, 0);
+    filing::merge_valves(&mut right_total, right, 0);
+    filing::unmerge_key(&mut left_total, left, withdrawn);
+    filing::unmerge_key(&mut right_total, right, withdrawn);
+    print::text(b"  ");
+    totals(&left_total, &right_total, 0, withdrawn);
+    print::text(b" all valves, without it\n");
+}
+
+// What is left of a key.
+pub fn nothing_left(left: &[u64], right: &[u64], key: usize)
+    requires { ⌜ key < 24 ⌝ }
+{
+    let mut decoded = [0.0f64; 4];
+    let nothing = [0.0f64; 4];
+    filing::read(left, right, key, &mut decoded);
+    print::text(b"  ");
+    entry(
+        decoded[0],
+        nothing[0],
+        row::same_doubles(&decoded, &nothing),
+    );
+    print::text(b" its valve\n");
 }
 
 pub fn print(left: &[u64], right: &[u64]) {

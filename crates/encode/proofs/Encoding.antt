@@ -14,7 +14,6 @@ use Rattle.rules.specs.declared.Answer.{Answer}
 use Rattle.rules.specs.Rules.{answer, accepted, first, inOrder}
 use Rattle.rules.proofs.Chain.{passed, accepted-whole, so, first-refused, first-passed, split}
 use Rattle.field64.specs.Field.{p64, subMod}
-use Rattle.doubles.specs.Doubles.{power}
 use Rattle.pine.specs.declared.PineParam.{PineParam}
 use Rattle.pine.specs.declared.record.Pine.{Pine}
 use Rattle.pine.specs.Param.{Field, Field64, paramAnswer}
@@ -172,10 +171,6 @@ part-long n h = length-take-le n (replicate {A = ℕ} 256 0) h
 -- ---- of the record
 
 module _ (i : PineParam) (R : Pine) (is : R ≡ pineOf i) where
-  pub scale-is : R .scale ≡ power (R .«frac_bits»)
-  unfolding pineOf
-  scale-is = rw is
-
   -- what Field64 has room for
   pub bounds-fit : paramAnswer Field64 i ≡ accepted → (R .«wr_test_bound» ≤ p64) × ((0 < R .«wr_test_bound») × (R .«sq_norm_bound» < p64))
   unfolding pineOf

@@ -7,6 +7,7 @@ use lib.Dec.{lit<, lit≤}
 use lib.Pow.{pow-pos, pow-mono}
 use Rattle.field64.specs.Field.{p64}
 use Rattle.rules.specs.Rules.{accepted}
+use Rattle.doubles.specs.Doubles.{power}
 use Rattle.pine.specs.declared.PineParam.{PineParam}
 use Rattle.pine.specs.declared.record.Pine.{Pine}
 use Rattle.pine.specs.Param.{Field, Field64, paramAnswer}
@@ -127,6 +128,11 @@ unfolding sqNormBound
 norm-64 i e =
     let l = limits-64 i e .norm .1 in
     lt-of-le-of-lt (mul-le-mul l l) (lit< tt)
+
+-- ---- the record's scale is that of its own fractional bits
+pub scale-is : (i : PineParam) (r : Pine) → r ≡ pineOf i → r .scale ≡ power (r .«frac_bits»)
+unfolding pineOf
+scale-is i r e = rw e
 
 -- ---- a record that was derived from accepted inputs
 pub record Small (r : Pine) : Type 0 where

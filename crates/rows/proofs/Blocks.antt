@@ -2,7 +2,7 @@
 use mathlib.Core.Path.{_≡_, refl, sym, ap, subst, _∙_}
 use mathlib.Core.Bool.{Bool, true, false}
 use mathlib.Core.List.{List, [], _∷_, _++_}
-use Prim.Native.Nat.{ℕ, zero, suc, _+_, _-_, _/_, _%_, _^_, _≤_, _<_}
+use Prim.Native.Nat.{ℕ, _+_, _-_, _/_, _%_, _^_, _≤_, _<_}
 use native.Mathlib.Omega.{arith}
 use lib.ListN.{length, getD, take, drop, length-drop, take-append-drop}
 use lib.Seq.{take-all, drop-drop, length-take-le}
@@ -82,17 +82,6 @@ pub seen-all : (p : ℕ) (row : List ℕ) (i seen : ℕ) → length row ≤ i �
 seen-all p row i seen h s = (λ k. below-all p row (λ j l. s .0 k j (omega arith)), s .1)
 
 -- ---- rows joined by |
-
-pub or-length : (xs ys : List ℕ) → length xs ≡ length ys → length (orRows xs ys) ≡ length xs
-or-length [] ys e = refl
-or-length (x ∷ xs) [] e = absurd (omega arith)
-or-length (x ∷ xs) (y ∷ ys) e = ap suc (or-length xs ys (omega arith))
-
-pub or-at : (xs ys : List ℕ) (i : ℕ) → i < length xs → length xs ≡ length ys → bitOr (getD xs i 0) (getD ys i 0) ≡ getD (orRows xs ys) i 0
-or-at [] ys i h e = absurd (omega arith)
-or-at (x ∷ xs) [] i h e = absurd (omega arith)
-or-at (x ∷ xs) (y ∷ ys) zero h e = refl
-or-at (x ∷ xs) (y ∷ ys) (suc i) h e = or-at xs ys i (omega arith) (omega arith)
 
 -- where they are below n, so are both
 pub or-below : (n : ℕ) (xs ys : List ℕ) → length xs ≡ length ys → Below n (orRows xs ys) → Below n xs × Below n ys

@@ -7,10 +7,12 @@ use lib.Ieee.{Float}
 use borrow.Author.Tests.{eq-eqb, ne-eqb}
 use Rattle.rules.specs.declared.Answer.{Answer}
 use Rattle.pine.specs.declared.PineParam.{PineParam}
+use Rattle.pine.specs.declared.record.Pine.{Pine}
 use Rattle.pine.specs.Param.{Field}
-use Rattle.rows.specs.Rows.{addRows}
+use Rattle.pine.specs.Record.{pineOf}
+use Rattle.rows.specs.Rows.{addRows, subRows}
 use Rattle.rows.specs.Outcome.{outcome}
-use Rattle.vdaf.specs.Aggregates.{emptyAnswer, emptyOf, accumulateAnswer, accumulateOf, unshardOutcome, decodedSums, unshardAnswer, unshardOf}
+use Rattle.vdaf.specs.Aggregates.{emptyAnswer, emptyOf, accumulateAnswer, accumulateOf, subtractOf, unshardOutcome, decodedSums, unshardAnswer, unshardOf}
 use Rattle.vdaf.proofs.Accepted.{TwoRows, emptied, added, unsharded}
 
 abbrev pub number : Answer → ℕ
@@ -40,6 +42,14 @@ module _ (F : Field) (i : PineParam) (a : Answer) where
     unfolding accumulateOf
     accumulate-done z r g = rw (g, ← e, eq-eqb (a .number) 0 z)
 
+    pub subtract-refused : (a .number ≡ 0 → ⊥) → outcome a agg ≡ subtractOf F i agg share
+    unfolding subtractOf
+    subtract-refused n = rw (← e, ne-eqb (a .number) 0 n)
+
+    pub subtract-done : a .number ≡ 0 → (r : List ℕ) → r ≡ subRows (F .p) agg share → outcome a r ≡ subtractOf F i agg share
+    unfolding subtractOf
+    subtract-done z r g = rw (g, ← e, eq-eqb (a .number) 0 z)
+
   module _ (left right : List ℕ) (row : List Float) (e : a ≡ unshardAnswer F i left right row) where
     pub unshard-refused : (a .number ≡ 0 → ⊥) → unshardOutcome a row ≡ unshardOf F i left right row
     unfolding unshardOf
@@ -48,6 +58,7 @@ module _ (F : Field) (i : PineParam) (a : Answer) where
     pub unshard-met : a .number ≡ 0 → TwoRows F i left right × (length row ≡ i .dimension)
     unshard-met z = unsharded F i left right row (ap number (sym e) ∙ z)
 
-    pub unshard-done : a .number ≡ 0 → (r : List Float) → r ≡ decodedSums (F .p) (i .«frac_bits») left right → unshardOutcome a r ≡ unshardOf F i left right row
-    unfolding unshardOf
-    unshard-done z r g = rw (g, ← e, eq-eqb (a .number) 0 z)
+    -- decoded at the record's own scale
+    pub unshard-done : a .number ≡ 0 → (R : Pine) → R ≡ pineOf i → (r : List Float) → r ≡ decodedSums (F .p) (R .«frac_bits») left right → unshardOutcome a r ≡ unshardOf F i left right row
+    unfolding unshardOf pineOf
+    unshard-done z R f r g = rw (g, f, ← e, eq-eqb (a .number) 0 z)

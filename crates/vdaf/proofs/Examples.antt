@@ -10,7 +10,7 @@ use Rattle.doubles.specs.Doubles.{plusZero, centred, decoded}
 use Rattle.pine.specs.declared.PineParam.{PineParam}
 use Rattle.pine.specs.Param.{Field64, paramRules, paramAnswer}
 use Rattle.rows.specs.Outcome.{Outcome, outcome}
-use Rattle.vdaf.specs.Aggregates.{emptyAnswer, emptyOf, accumulateAnswer, accumulateOf, UnshardOutcome, unshardOutcome, decodedSums, unshardAnswer, unshardOf}
+use Rattle.vdaf.specs.Aggregates.{emptyAnswer, emptyOf, accumulateAnswer, accumulateOf, subtractOf, UnshardOutcome, unshardOutcome, decodedSums, unshardAnswer, unshardOf}
 
 -- the inputs with this dimension and these fractional bits; the others are the least
 abbrev inputs : (d f : ℕ) → PineParam
@@ -54,6 +54,45 @@ adding = record {
   in-agg = refl;
   in-share = refl;
   inputs-first = refl;
+}
+
+-- ---- taking out: the rows and the refusals are adding's
+abbrev difference : (d f : ℕ) (agg share : List ℕ) → Outcome
+difference d f agg share = subtractOf Field64 (inputs d f) agg share
+
+record TakingOut : Type 0 where
+  wraps : difference 3 0 (6 ∷ 2 ∷ 7 ∷ []) (5 ∷ 3 ∷ 7 ∷ []) ≡ outcome accepted (1 ∷ (p64 - 1) ∷ 0 ∷ [])
+  -- never added
+  from-zero : difference 2 0 (0 ∷ 0 ∷ []) (1 ∷ (p64 - 1) ∷ []) ≡ outcome accepted ((p64 - 1) ∷ 1 ∷ [])
+  agg-short : difference 2 0 (1 ∷ []) (5 ∷ []) ≡ outcome (answer 7 1) (1 ∷ [])
+  share-long : difference 2 0 (1 ∷ 2 ∷ []) (5 ∷ 3 ∷ 1 ∷ []) ≡ outcome (answer 7 2) (1 ∷ 2 ∷ [])
+  length-first : difference 2 0 (p64 ∷ 2 ∷ []) (5 ∷ []) ≡ outcome (answer 7 2) (p64 ∷ 2 ∷ [])
+  in-agg : difference 2 0 (1 ∷ p64 ∷ []) (p64 ∷ 3 ∷ []) ≡ outcome (answer 12 1) (1 ∷ p64 ∷ [])
+  in-share : difference 2 0 (1 ∷ 2 ∷ []) (5 ∷ p64 ∷ []) ≡ outcome (answer 12 3) (1 ∷ 2 ∷ [])
+  inputs-first : difference 2 31 (1 ∷ []) (p64 ∷ []) ≡ outcome (answer 4 0) (1 ∷ [])
+  -- what stands in an outcome, accepted and refused
+  number : difference 2 0 (1 ∷ 2 ∷ []) (5 ∷ p64 ∷ []) .answer .number ≡ 12
+  place : difference 2 0 (1 ∷ 2 ∷ []) (5 ∷ p64 ∷ []) .answer .place ≡ 3
+  kept : difference 2 0 (1 ∷ 2 ∷ []) (5 ∷ p64 ∷ []) .row ≡ 1 ∷ 2 ∷ []
+  zero-number : difference 1 0 (7 ∷ []) (5 ∷ []) .answer .number ≡ 0
+  written : difference 1 0 (7 ∷ []) (5 ∷ []) .row ≡ 2 ∷ []
+
+taking-out : TakingOut
+unfolding subtractOf accumulateAnswer paramAnswer paramRules
+taking-out = record {
+  wraps = refl;
+  from-zero = refl;
+  agg-short = refl;
+  share-long = refl;
+  length-first = refl;
+  in-agg = refl;
+  in-share = refl;
+  inputs-first = refl;
+  number = refl;
+  place = refl;
+  kept = refl;
+  zero-number = refl;
+  written = refl;
 }
 
 -- ---- unsharding

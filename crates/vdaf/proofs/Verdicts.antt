@@ -1,5 +1,5 @@
 -- The answer that a call's check_* function puts together is the one of its rules in their order. Assumes nothing.
-use mathlib.Core.Path.{_≡_, sym, ap, _∙_}
+use mathlib.Core.Path.{_≡_, refl, sym, ap, _∙_}
 use mathlib.Core.List.{List, [], _∷_, _++_}
 use Prim.Native.Nat.{ℕ, _+_}
 use lib.ListN.{length}
@@ -7,9 +7,12 @@ use lib.Dec.{ltb}
 use lib.Ieee.{Float}
 use Rattle.rules.specs.declared.Answer.{Answer}
 use Rattle.rules.specs.Rules.{accepted, first, inOrder}
-use Rattle.rules.proofs.Chain.{refuse-last, first-assoc}
+use Rattle.rules.proofs.Chain.{refuse-last, first-refused, first-passed, first-assoc, both}
 use Rattle.pine.specs.declared.PineParam.{PineParam}
+use Rattle.pine.specs.declared.record.Pine.{Pine}
 use Rattle.pine.specs.Param.{Field, paramAnswer}
+use Rattle.pine.specs.Record.{pineOf}
+use Rattle.pine.proofs.Limits.{param-accepted}
 use Rattle.rows.specs.Rows.{rowRule, firstBad, elementsRule}
 use Rattle.rows.proofs.Lengths.{row-last}
 use Rattle.vdaf.specs.Aggregates.{emptyAnswer, accumulateAnswer, unshardAnswer}
@@ -29,18 +32,53 @@ module _ (F : Field) (i : PineParam) where
   abbrev row-rule : {A : Type 0} → ℕ → List A → Answer
   row-rule k xs = rowRule k (length xs) (i .dimension)
 
-  -- rules 1 to 7 of two rows
-  abbrev pub lens : (xs ys : List ℕ) → Answer
-  lens xs ys = first (paramAnswer F i) (first (row-rule 1 xs) (row-rule 2 ys))
+  -- rules 1 to 7 of two rows, by their lengths
+  abbrev lens : (n m : ℕ) → Answer
+  lens n m = first (paramAnswer F i) (first (rowRule 1 n (i .dimension)) (rowRule 2 m (i .dimension)))
 
-  pub empty-verdict : (row : List ℕ) (a b r : Answer) → a ≡ paramAnswer F i → b ≡ row-rule 1 row → r ≡ first a b → r ≡ emptyAnswer F i row
-  unfolding emptyAnswer
-  empty-verdict row a b r e f g = g ∙ rw (e, f) (ap (first (paramAnswer F i)) (sym (row-last 1 (length row) (i .dimension))))
+  -- ---- rules 1 to 6 refuse, or their inputs are accepted and the record's dimension serves
 
-  pub accumulate-verdict : (agg share : List ℕ) (a r : Answer) → a ≡ lens agg share → r ≡ first a (elementsRule (F .p) (agg ++ share)) → r ≡ accumulateAnswer F i agg share
+  module _ (a : Answer) (e : a ≡ paramAnswer F i) where
+    pub stopped : (rest : Answer) → (a .number ≡ 0 → ⊥) → a ≡ first (paramAnswer F i) rest
+    stopped rest n = sym (first-refused a rest n) ∙ ap (λ (t : Answer). first t rest) e
+
+    pub empty-stopped : (row : List ℕ) → (a .number ≡ 0 → ⊥) → a ≡ emptyAnswer F i row
+    unfolding emptyAnswer
+    empty-stopped row n = stopped _ n
+
+    module _ (z : a .number ≡ 0) where
+      pub inputs-met : paramAnswer F i ≡ accepted
+      inputs-met = param-accepted F i (ap (λ (t : Answer). t .number) (sym e) ∙ z)
+
+      module _ (r : Pine) (f : r ≡ pineOf i) where
+        by-record : (k n : ℕ) (b : Answer) → b ≡ rowRule k n (r .dimension) → b ≡ rowRule k n (i .dimension)
+        unfolding pineOf
+        by-record k n b g = g ∙ ap (λ (t : Pine). rowRule k n (t .dimension)) f
+
+        pub lens-verdict : (n m : ℕ) (b c s : Answer) → b ≡ rowRule 1 n (r .dimension) → c ≡ rowRule 2 m (r .dimension) → s ≡ first b c → s ≡ lens n m
+        lens-verdict n m b c s g h q = q ∙ rw (by-record 1 n b g, by-record 2 m c h, inputs-met)
+
+        pub empty-verdict : (row : List ℕ) (b : Answer) → b ≡ rowRule 1 (length row) (r .dimension) → b ≡ emptyAnswer F i row
+        unfolding emptyAnswer
+        empty-verdict row b g = by-record 1 (length row) b g ∙ sym (rw inputs-met (row-last 1 (length row) (i .dimension)))
+
+  -- ---- rules 1 to 7 of two rows, and then the others
+
+  pub accumulate-verdict : (agg share : List ℕ) (a r : Answer) → a ≡ lens (length agg) (length share) → r ≡ first a (elementsRule (F .p) (agg ++ share)) → r ≡ accumulateAnswer F i agg share
   unfolding accumulateAnswer
   accumulate-verdict agg share a r e g = g ∙ rw e (after-three (paramAnswer F i) (row-rule 1 agg) (row-rule 2 share) _ (elements-last (F .p) (agg ++ share)))
 
-  pub unshard-verdict : (left right : List ℕ) (row : List Float) (a b c r : Answer) → a ≡ lens left right → b ≡ row-rule 3 row → c ≡ first a b → r ≡ first c (elementsRule (F .p) (left ++ right)) → r ≡ unshardAnswer F i left right row
-  unfolding unshardAnswer
-  unshard-verdict left right row a b c r e f g h = h ∙ rw (g, e, f) (after-four (paramAnswer F i) (row-rule 1 left) (row-rule 2 right) (row-rule 3 row) _ (elements-last (F .p) (left ++ right)))
+  module _ (left right : List ℕ) (row : List Float) (a : Answer) (e : a ≡ lens (length left) (length right)) where
+    chained : (r : Answer) → r ≡ first (first a (row-rule 3 row)) (elementsRule (F .p) (left ++ right)) → r ≡ unshardAnswer F i left right row
+    unfolding unshardAnswer
+    chained r h = h ∙ rw e (after-four (paramAnswer F i) (row-rule 1 left) (row-rule 2 right) (row-rule 3 row) _ (elements-last (F .p) (left ++ right)))
+
+    pub unshard-stopped : (a .number ≡ 0 → ⊥) → a ≡ unshardAnswer F i left right row
+    unshard-stopped n = chained a (sym (first-assoc a _ _ ∙ first-refused a _ n))
+
+    module _ (z : a .number ≡ 0) where
+      pub lens-met : paramAnswer F i ≡ accepted
+      lens-met = param-accepted F i (both (paramAnswer F i) _ (ap (λ (t : Answer). t .number) (sym e) ∙ z) .0)
+
+      pub unshard-verdict : (r : Pine) → r ≡ pineOf i → (b s : Answer) → b ≡ rowRule 3 (length row) (r .dimension) → s ≡ first b (elementsRule (F .p) (left ++ right)) → s ≡ unshardAnswer F i left right row
+      unshard-verdict r f b s g h = chained s (h ∙ ap (λ (t : Answer). first t (elementsRule (F .p) (left ++ right))) (by-record (paramAnswer F i) refl (ap (λ (t : Answer). t .number) lens-met) r f 3 (length row) b g ∙ sym (first-passed a (row-rule 3 row) z)))

@@ -1,7 +1,8 @@
 // Aggregates of PINE over Field64 (pine/vdaf.rs of the Rust): the aggregate of no shares, adding to
-// an aggregate, and reading two aggregates back as doubles. Each public call takes any arguments; a
-// function named check_* decides its answer and writes nothing.
+// an aggregate, taking out of one, and reading two aggregates back as doubles. Each public call takes
+// any arguments; a function named check_* decides its answer and writes nothing.
 use pine::PineParam;
+use pine::record::Pine;
 use rules::Answer;
 ghost use mathlib.Core.Path.{_≡_};
 ghost use lib.ListN.{length};
@@ -11,24 +12,31 @@ ghost use Rattle.doubles.specs.Doubles.{power};
 ghost use Rattle.pine.specs.Param.{Field64, paramAnswer};
 ghost use Rattle.rows.specs.Rows.{rowRule, Below};
 ghost use Rattle.rows.specs.Outcome.{outcome};
-ghost use Rattle.vdaf.specs.Aggregates.{emptyAnswer, emptyOf, accumulateAnswer, accumulateOf, unshardOutcome, decodedSums, unshardAnswer, unshardOf};
+ghost use Rattle.vdaf.specs.Aggregates.{emptyAnswer, emptyOf, accumulateAnswer, accumulateOf, subtractOf, unshardOutcome, decodedSums, unshardAnswer, unshardOf};
 
 // Rules 1 to 7 of two rows of these lengths.
 fn check_lens(param: PineParam, left: usize, right: usize) -> Answer
     ensures { λ r. ⌜ r ≡ first (paramAnswer Field64 param) (first (rowRule 1 left (param .dimension)) (rowRule 2 right (param .dimension))) ⌝ }
 {
     let inputs = params::check_param(param);
-    let left_len = rows::check_len(1, left, param.dimension);
-    let right_len = rows::check_len(2, right, param.dimension);
-    inputs.or(left_len.or(right_len))
+    if inputs.number != 0 {
+        return inputs;
+    }
+    let pine = Pine::new(param);
+    let left_len = rows::check_len(1, left, pine.dimension);
+    let right_len = rows::check_len(2, right, pine.dimension);
+    left_len.or(right_len)
 }
 
 fn check_empty(param: PineParam, row: &[u64]) -> Answer
     ensures { λ r. ⌜ r ≡ emptyAnswer Field64 param (now (row .entry)) ⌝ }
 {
     let inputs = params::check_param(param);
-    let row_len = rows::check_len(1, row.len(), param.dimension);
-    inputs.or(row_len)
+    if inputs.number != 0 {
+        return inputs;
+    }
+    let pine = Pine::new(param);
+    rows::check_len(1, row.len(), pine.dimension)
 }
 
 fn check_accumulate(param: PineParam, agg: &[u64], share: &[u64]) -> Answer
@@ -42,8 +50,12 @@ fn check_unshard(param: PineParam, left: &[u64], right: &[u64], decoded: &[f64])
     ensures { λ r. ⌜ r ≡ unshardAnswer Field64 param (now (left .entry)) (now (right .entry)) (now (decoded .entry)) ⌝ }
 {
     let lens = check_lens(param, left.len(), right.len());
-    let decoded_len = rows::check_len(3, decoded.len(), param.dimension);
-    rows::or_elements(lens.or(decoded_len), left, right)
+    if lens.number != 0 {
+        return lens;
+    }
+    let pine = Pine::new(param);
+    let decoded_len = rows::check_len(3, decoded.len(), pine.dimension);
+    rows::or_elements(decoded_len, left, right)
 }
 
 // Adds left and right by element, and writes the sums as doubles at the scale 2^frac_bits.
@@ -91,6 +103,25 @@ pub fn merge(param: PineParam, agg: &mut [u64], other: &[u64]) -> Answer
     accumulate(param, agg, other)
 }
 
+// Takes a share out of an aggregate, whether or not it was added. It refuses what adding refuses.
+pub fn subtract(param: PineParam, agg: &mut [u64], share: &[u64]) -> Answer
+    ensures { λ r. ⌜ outcome r (now (agg .exit)) ≡ subtractOf Field64 param (now (agg .entry)) (now (share .entry)) ⌝ }
+{
+    let answer = check_accumulate(param, agg, share);
+    if answer.number != 0 {
+        return answer;
+    }
+    rows::sub_rows(agg, share);
+    answer
+}
+
+// Takes another aggregate out of an aggregate: the same taking out.
+pub fn unmerge(param: PineParam, agg: &mut [u64], other: &[u64]) -> Answer
+    ensures { λ r. ⌜ outcome r (now (agg .exit)) ≡ subtractOf Field64 param (now (agg .entry)) (now (other .entry)) ⌝ }
+{
+    subtract(param, agg, other)
+}
+
 // Adds two aggregates and writes the sums as doubles.
 pub fn unshard(param: PineParam, left: &[u64], right: &[u64], decoded: &mut [f64]) -> Answer
     ensures { λ r. ⌜ unshardOutcome r (now (decoded .exit)) ≡ unshardOf Field64 param (now (left .entry)) (now (right .entry)) (now (decoded .entry)) ⌝ }
@@ -99,7 +130,7 @@ pub fn unshard(param: PineParam, left: &[u64], right: &[u64], decoded: &mut [f64
     if answer.number != 0 {
         return answer;
     }
-    let scale = doubles::scale_of(param.frac_bits);
-    decode_sums(left, right, scale, param.frac_bits, decoded);
+    let pine = Pine::new(param);
+    decode_sums(left, right, pine.scale, pine.frac_bits, decoded);
     answer
 }

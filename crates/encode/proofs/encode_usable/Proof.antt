@@ -4,8 +4,9 @@ use native.Mathlib.Omega.{arith}
 use Rattle.field64.specs.Field.{p64}
 use lib.ListN.{length}
 use Rattle.pine.specs.Param.{Field64}
+use Rattle.pine.proofs.Sizes.{scale-is}
 use Rattle.flp.proofs.Tests.{results-below}
-use Rattle.encode.proofs.Encoding.{ready, room, rest-long, late-refused, done, scale-is, bounds-fit}
+use Rattle.encode.proofs.Encoding.{ready, room, rest-long, late-refused, done, bounds-fit}
 use Rattle.encode.proofs.encode_usable.Statement.{statement}
 use Rattle.encode.proofs.encode_usable.Tie as tie
 

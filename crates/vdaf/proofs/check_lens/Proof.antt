@@ -1,10 +1,18 @@
 -- `vdaf::check_lens` meets its contract. Assumes nothing.
+use Rattle.pine.specs.Param.{Field64}
+use Rattle.vdaf.proofs.Verdicts.{stopped, inputs-met, lens-verdict}
 use borrow.Author.Needs.{needs}
 use Rattle.vdaf.proofs.check_lens.Statement.{statement}
 use Rattle.vdaf.proofs.check_lens.Tie as tie
 
 check-param-requires : tie.Need-check-param-requires
 check-param-requires c κs = search needs
+
+returns : tie.Need-returns
+returns c = stopped Field64 _ _ (c .before .before .check-param .ensures) _ (c .if1 .taken)
+
+new-requires : tie.Need-new-requires
+new-requires c κs = inputs-met Field64 _ _ (c .before .before .check-param .ensures) (c .if1 .left)
 
 check-len-requires : tie.Need-check-len-requires
 check-len-requires c κs = search needs
@@ -15,19 +23,20 @@ check-len-requires-2 c κs = search needs
 or-requires : tie.Need-or-requires
 or-requires c κs = search needs
 
-or-requires-2 : tie.Need-or-requires-2
-or-requires-2 c κs = search needs
-
-returns : tie.Need-returns
-returns c = simp (c .or2 .ensures, c .before .or .ensures, c .before .before .check-len2 .ensures, c .before .before .before .check-len .ensures, c .before .before .before .before .check-param .ensures)
+returns-2 : tie.Need-returns-2
+returns-2 c =
+    let n = c .before .before .before in
+    let e = n .before in
+    lens-verdict Field64 _ _ (e .before .before .check-param .ensures) (e .if1 .left) _ (n .new .ensures) _ _ _ _ _ (c .before .before .check-len .ensures) (c .before .check-len2 .ensures) (c .or .ensures)
 
 pub check-lens-spec : {M : Type 1} → statement M
 check-lens-spec =
     tie.close
     (tie.spec
     check-param-requires
+    returns
+    new-requires
     check-len-requires
     check-len-requires-2
     or-requires
-    or-requires-2
-    returns)
+    returns-2)

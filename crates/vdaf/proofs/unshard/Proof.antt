@@ -1,8 +1,8 @@
 -- `vdaf::unshard` meets its contract. Assumes nothing.
-use mathlib.Core.Path.{sym, ap, _∙_}
+use mathlib.Core.Path.{sym, _∙_}
 use Rattle.pine.specs.Param.{Field64}
-use Rattle.pine.proofs.Limits.{limits}
-use Rattle.vdaf.proofs.Effects.{number, unshard-refused, unshard-met, unshard-done}
+use Rattle.pine.proofs.Sizes.{scale-is}
+use Rattle.vdaf.proofs.Effects.{unshard-refused, unshard-met, unshard-done}
 use borrow.Author.Needs.{needs}
 use Rattle.vdaf.proofs.unshard.Statement.{statement}
 use Rattle.vdaf.proofs.unshard.Tie as tie
@@ -16,16 +16,14 @@ same-length c = search needs
 returns : tie.Need-returns
 returns c = unshard-refused Field64 _ _ _ _ _ (c .before .before .check-unshard .ensures) (c .if1 .taken)
 
-scale-of-requires : tie.Need-scale-of-requires
-scale-of-requires c κs =
-    let t = unshard-met Field64 _ _ _ _ _ (c .before .before .check-unshard .ensures) (c .if1 .left) in
-    limits Field64 _ (ap number (t .0 .param)) .fraction
+new-requires : tie.Need-new-requires
+new-requires c κs = unshard-met Field64 _ _ _ _ _ (c .before .before .check-unshard .ensures) (c .if1 .left) .0 .param
 
 decode-sums-requires : tie.Need-decode-sums-requires
 decode-sums-requires c κs =
     let b = c .before .before in
     let t = unshard-met Field64 _ _ _ _ _ (b .before .before .check-unshard .ensures) (b .if1 .left) in
-    ((t .0 .left-long ∙ sym (t .1), t .0 .right-long ∙ sym (t .1)), ((t .0 .left-below, t .0 .right-below), c .before .scale-of .ensures))
+    ((t .0 .left-long ∙ sym (t .1), t .0 .right-long ∙ sym (t .1)), ((t .0 .left-below, t .0 .right-below), scale-is _ _ (c .before .new .ensures)))
 
 same-length-2 : tie.Need-same-length-2
 same-length-2 c = search needs
@@ -34,7 +32,7 @@ returns-2 : tie.Need-returns-2
 returns-2 c =
     let z = c .before .before in
     let b = z .before .before .before in
-    unshard-done Field64 _ _ _ _ _ (b .before .before .check-unshard .ensures) (b .if1 .left) _ (z .decode-sums .ensures)
+    unshard-done Field64 _ _ _ _ _ (b .before .before .check-unshard .ensures) (b .if1 .left) _ (z .before .before .new .ensures) _ (z .decode-sums .ensures)
 
 pub unshard-spec : {M : Type 1} → statement M
 unshard-spec =
@@ -43,7 +41,7 @@ unshard-spec =
     check-unshard-requires
     same-length
     returns
-    scale-of-requires
+    new-requires
     decode-sums-requires
     same-length-2
     returns-2)

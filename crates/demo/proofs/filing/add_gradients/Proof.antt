@@ -8,10 +8,10 @@ use Rattle.demo.proofs.filing.add_gradients.Statement.{statement}
 use Rattle.demo.proofs.filing.add_gradients.Tie as tie
 
 abbrev Inv-loop : tie.InvT-loop
-Inv-loop sum₀ first valve₀ sum valve = (length sum ≡ length sum₀) × (valve ≤ 12)
+Inv-loop sum₀ first withdrawn valve₀ sum valve = (length sum ≡ length sum₀) × (valve ≤ 12)
 
 abbrev μ-loop : tie.MeasureT-loop
-μ-loop sum₀ first valve₀ sum valve = 12 - valve
+μ-loop sum₀ first withdrawn valve₀ sum valve = 12 - valve
 
 loop-holds : tie.Need-loop-holds Inv-loop μ-loop
 loop-holds c = search needs

@@ -1,11 +1,14 @@
 -- `rows::scan::joined_carries` meets its contract. Assumes nothing.
+use mathlib.Core.Path.{sym}
 use Prim.Native.Nat.{_-_, _≤_, _<_}
 use native.Mathlib.Omega.{arith}
 use borrow.Author.Needs.{needs}
 use lib.ListN.{length}
+use lib.Bits.{bitOr}
 use Rattle.field64.specs.Field.{p64}
 use Rattle.rows.specs.Joined.{orRows}
-use Rattle.rows.proofs.Blocks.{Seen, seen-none, seen-next, seen-all, or-length, or-at}
+use Rattle.rows.proofs.Blocks.{Seen, seen-none, seen-next, seen-all}
+use Rattle.rows.proofs.ByElement.{length-by, getD-by}
 use Rattle.rows.proofs.scan.joined_carries.Statement.{statement}
 use Rattle.rows.proofs.scan.joined_carries.Tie as tie
 
@@ -46,14 +49,14 @@ loop-again c =
     let left = a .args .left .now in
     let right = a .args .right .now in
     let e = c .or-carry .ensures in
-    let h : l .loop .i < length (orRows left right) = rw (or-length left right (a .pre)) (omega arith) in
-    (omega arith, seen-next p64 (orRows left right) (l .loop .i) (l .loop .seen) _ _ h (or-at left right (l .loop .i) (omega arith) (a .pre)) (e .0) (e .1) (l .loop .inv .1))
+    let h : l .loop .i < length (orRows left right) = rw (length-by bitOr left right (a .pre)) (omega arith) in
+    (omega arith, seen-next p64 (orRows left right) (l .loop .i) (l .loop .seen) _ _ h (sym (getD-by bitOr left right (l .loop .i) (a .pre) (omega arith))) (e .0) (e .1) (l .loop .inv .1))
 
 returns : tie.Need-returns Inv-loop μ-loop
 returns c =
     let l = c .before in
     let a = l .before .before .before in
-    let h : length (orRows (a .args .left .now) (a .args .right .now)) ≤ l .loop .i = rw (or-length (a .args .left .now) (a .args .right .now) (a .pre)) (omega arith) in
+    let h : length (orRows (a .args .left .now) (a .args .right .now)) ≤ l .loop .i = rw (length-by bitOr (a .args .left .now) (a .args .right .now) (a .pre)) (omega arith) in
     seen-all p64 (orRows (a .args .left .now) (a .args .right .now)) (l .loop .i) (l .loop .seen) h (l .loop .inv .1)
 
 pub joined-carries-spec : {M : Type 1} → statement M
