@@ -1,4 +1,7 @@
-"""Cases on aggregates: merge, accumulate, aggregate, unshard; and lists of such calls."""
+"""Cases on aggregates: merge, accumulate, subtract, unmerge, aggregate, unshard; and lists of such calls.
+
+The original takes nothing out of an aggregate. What subtract and unmerge give is worked out here, in whole numbers.
+"""
 
 import itertools
 from typing import Callable, NamedTuple
@@ -8,9 +11,14 @@ from common import (BROKEN, HALF, INPUTS, OK, P, TOP, Case, Inputs, Kind, below,
 from singles import TOPS, tie
 
 
+TAKING = ("subtract", "unmerge")
+
+
 def adding(kind, inputs, agg, share):
-    """merge or accumulate. The aggregate is argument and result, so no other row is lent."""
+    """merge, accumulate, subtract or unmerge. The aggregate is argument and result, so no other row is lent."""
     want = first(refused(first_rule(*inputs)), rule_7((len(agg), inputs.d), (len(share), inputs.d)), rule_12(agg, share))
+    if want == OK and kind in TAKING:
+        want = f"{OK} {vec([(a - b) % P for a, b in zip(agg, share)])}"
     return Case(kind, f"{kind} {inputs} {vec(agg)} {vec(share)}", want)
 
 
@@ -46,11 +54,11 @@ def completed(rng, left):
     return element(rng)
 
 
-def two_rows(rng, inputs, wrong):
-    """Two rows of d elements, with the faults named."""
+def two_rows(rng, inputs, wrong, sign=1):
+    """Two rows of d elements, with the faults named; for the sign -1 it is their difference that matters."""
     length = inputs.d if inputs.d <= 64 else 3
     left = elements(rng, length)
-    rows = [left, [completed(rng, x) for x in left]]
+    rows = [left, [sign * completed(rng, x) % P for x in left]]
     for name in wrong:
         if name in ("left", "right"):
             i = ("left", "right").index(name)
@@ -81,7 +89,7 @@ def draw_adding(kind):
     def draw(rng):
         wrong = faults(rng, [*INPUTS, "left", "right", "element", "element"])
         inputs = draw_small(rng, wrong)
-        return adding(kind, inputs, *two_rows(rng, inputs, wrong))
+        return adding(kind, inputs, *two_rows(rng, inputs, wrong, -1 if kind in TAKING else 1))
     return draw
 
 
@@ -118,13 +126,13 @@ def begin(rng, d, i):
     return Call(lambda rows: aggregate(inputs, []), i)
 
 
-def draw_call(rng, d, many):
-    """A call on so many aggregates of d elements."""
+def draw_call(rng, d, many, shares):
+    """A call on so many aggregates of d elements. The shares are those drawn before: one of them may be drawn again."""
     wrong = faults(rng, [*INPUTS, "dimension", "share", "element"]) if below(rng, 3) == 0 else []
     inputs = draw_small(rng, wrong, d=d + 1 + below(rng, 3) if "dimension" in wrong else d)
     i = below(rng, many)
     j = (i + 1 + below(rng, many - 1)) % many
-    way = below(rng, 16)
+    way = below(rng, 24)
     if way == 0:
         out = (d + 1,) if "share" in wrong else (d,)
         return Call(lambda rows: aggregate(inputs, [], out), i)
@@ -133,12 +141,19 @@ def draw_call(rng, d, many):
     if way < 7:
         j = j if rng.getrandbits(1) else i
         return Call(lambda rows: unshard(inputs, rows[i], rows[j], (d,)), None)
-    share = elements(rng, d)
+    if way < 9:
+        return Call(lambda rows: adding("unmerge", inputs, rows[i], rows[j]), i)
+    kind = "subtract" if way < 15 else "accumulate"
+    if kind == "subtract" and shares and below(rng, 4):
+        share = rng.choice(shares)
+    else:
+        share = elements(rng, d)
+        shares.append(share)
     if "share" in wrong:
         share = resized(rng, share, element)
     if "element" in wrong:
         share = damage(rng, share)
-    return Call(lambda rows: adding("accumulate", inputs, rows[i], share), i)
+    return Call(lambda rows: adding(kind, inputs, rows[i], share), i)
 
 
 # Fixed cases
@@ -232,6 +247,7 @@ def sweep_unshard():
 KINDS = {
     "merge": Kind(draw_adding("merge"), limits_adding("merge"), sweep_adding("merge"), drawn=30),
     "accumulate": Kind(draw_adding("accumulate"), limits_adding("accumulate"), sweep_adding("accumulate"), drawn=30),
+    **{kind: Kind(draw_adding(kind), limits_adding(kind), sweep_adding(kind), drawn=30, worked_out=True) for kind in TAKING},
     "aggregate": Kind(draw_aggregate, limits_aggregate, sweep_aggregate, drawn=60),
     "unshard": Kind(draw_unshard, limits_unshard, sweep_unshard, drawn=60),
 }

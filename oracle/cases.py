@@ -3,11 +3,12 @@
 A case is a line to ask, and what must be answered to it:
 
     OK                       document 01 accepts it: the original's own `ok ..` line, whatever that is
+    ok VEC                   the same, of subtract and unmerge, which the original has no call for
     refused NUMBER PLACE     document 01 refuses it, by the first rule broken
     bad                      the line is malformed
     nothing                  a blank line or a comment, which has no answer
 
-Only refusals are worked out here. What an accepted case gives is known to the original alone.
+Only refusals and what is taken out are worked out here. What any other accepted case gives is known to the original alone.
 
 A kind of case is one entry of KINDS: `draw(rng)` gives one random case; `limits()`, if there is one, lists the
 few hundred that belong in the gate's list; `sweep()` the many that are run only when all edges are asked for.
@@ -32,7 +33,7 @@ NONSENSE = ("-1", "-", "x", "1x", "x1", "1.0", "1_0", "1,0", "1e+3", "NaN", "inf
 NOT_DECIMAL = ("a", "ff", "1f", "0x1")
 
 # The word after the seven inputs is a count.
-COUNTED = ("merge", "accumulate", "aggregate", "unshard", "encode", "wrtests")
+COUNTED = ("merge", "accumulate", "aggregate", "unshard", "encode", "wrtests", *aggregates.TAKING)
 
 
 def spoil(rng, case):

@@ -29,6 +29,7 @@ class Kind(NamedTuple):
     limits: Callable[[], Iterable[Case]] = lambda: ()
     sweep: Callable[[], Iterable[Case]] = lambda: ()
     drawn: int = 80     # so many in the gate's list
+    worked_out: bool = False    # whether the original has no such call, and an accepted case says what it gives
 
 
 # Whole numbers and their limits

@@ -19,10 +19,12 @@ pub enum Call {
     EmptyAggregate,
     Accumulate,
     Merge,
+    Subtract,
+    Unmerge,
     Unshard,
 }
 
-pub const CALLS: [Call; 15] = [
+pub const CALLS: [Call; 17] = [
     Call::CheckParam,
     Call::Derive,
     Call::F64ToField,
@@ -37,6 +39,8 @@ pub const CALLS: [Call; 15] = [
     Call::EmptyAggregate,
     Call::Accumulate,
     Call::Merge,
+    Call::Subtract,
+    Call::Unmerge,
     Call::Unshard,
 ];
 
@@ -58,6 +62,8 @@ impl Call {
             Call::EmptyAggregate => "empty_aggregate",
             Call::Accumulate => "accumulate",
             Call::Merge => "merge",
+            Call::Subtract => "subtract",
+            Call::Unmerge => "unmerge",
             Call::Unshard => "unshard",
         }
     }

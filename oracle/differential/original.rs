@@ -110,6 +110,12 @@ fn adding(agg: &Row, share: &Row, merge: bool) -> Outcome<Given> {
     rows(vec![words(&opened::elements(agg))])
 }
 
+/// The original takes nothing out of an aggregate; its field has the difference.
+fn taking_out(agg: &Row, share: &Row) -> Outcome<Given> {
+    let left: Vec<Field64> = fields(agg).iter().zip(fields(share)).map(|(x, y)| *x - y).collect();
+    rows(vec![words(&left)])
+}
+
 fn unshard(pine: &Pine64, left: &Row, right: &Row) -> Outcome<Given> {
     let aggregates = [left, right].map(|row| opened::pine_vec(fields(row)));
     let decoded = pine.unshard(&(), aggregates, 1)?;
@@ -139,6 +145,7 @@ fn answer(case: &Case) -> Outcome<Given> {
         (Call::EmptyAggregate, [_]) => rows(vec![words(&opened::elements(pine.aggregate(&(), [])?))]),
         (Call::Accumulate, [agg, share]) => adding(agg, share, false),
         (Call::Merge, [agg, other]) => adding(agg, other, true),
+        (Call::Subtract | Call::Unmerge, [agg, share]) => taking_out(agg, share),
         (Call::Unshard, [left, right, _]) => unshard(&pine, left, right),
         _ => unreachable!(),
     }

@@ -55,6 +55,8 @@ extern "C" {
     fn pine_empty_aggregate(param: Param, row: *mut u64, row_len: usize) -> Answer;
     fn pine_accumulate(param: Param, agg: *mut u64, agg_len: usize, share: *const u64, share_len: usize) -> Answer;
     fn pine_merge(param: Param, agg: *mut u64, agg_len: usize, other: *const u64, other_len: usize) -> Answer;
+    fn pine_subtract(param: Param, agg: *mut u64, agg_len: usize, share: *const u64, share_len: usize) -> Answer;
+    fn pine_unmerge(param: Param, agg: *mut u64, agg_len: usize, other: *const u64, other_len: usize) -> Answer;
     fn pine_unshard(
         param: Param,
         left: *const u64,
@@ -122,6 +124,8 @@ pub fn call(case: &Case, rows: &mut [Lent]) -> Given {
             (Call::EmptyAggregate, [x]) => pine_empty_aggregate(p, x.pointer(), x.len).into(),
             (Call::Accumulate, [x, y]) => pine_accumulate(p, x.pointer(), x.len, y.pointer(), y.len).into(),
             (Call::Merge, [x, y]) => pine_merge(p, x.pointer(), x.len, y.pointer(), y.len).into(),
+            (Call::Subtract, [x, y]) => pine_subtract(p, x.pointer(), x.len, y.pointer(), y.len).into(),
+            (Call::Unmerge, [x, y]) => pine_unmerge(p, x.pointer(), x.len, y.pointer(), y.len).into(),
             (Call::Unshard, [x, y, decoded]) => unshard(p, x, y, decoded).into(),
             _ => unreachable!("{}: another number of rows", case.call.name()),
         }

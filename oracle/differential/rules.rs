@@ -58,7 +58,7 @@ fn derived(call: Call, param: &Param) -> Vec<Option<usize>> {
         Call::Valid => vec![Some(sizes.full), Some(3)],
         Call::ValidSqNormEqual | Call::GradientPart | Call::CheckedPart | Call::ResultsPart => vec![Some(sizes.full)],
         Call::EmptyAggregate => vec![d],
-        Call::Accumulate | Call::Merge => vec![d, d],
+        Call::Accumulate | Call::Merge | Call::Subtract | Call::Unmerge => vec![d, d],
         Call::Unshard => vec![d, d, d],
     }
 }

@@ -18,18 +18,27 @@ struct Sum {
     kept: bool,
 }
 
-fn merge_or_accumulate(param: PineParam, agg: &mut [u64], share: &[u64], merging: bool) -> Answer {
-    if merging {
-        vdaf::merge(param, agg, share)
-    } else {
-        vdaf::accumulate(param, agg, share)
+// The calls on an aggregate and another row.
+pub enum Call {
+    Merge,
+    Accumulate,
+    Subtract,
+    Unmerge,
+}
+
+fn make(which: Call, param: PineParam, agg: &mut [u64], share: &[u64]) -> Answer {
+    match which {
+        Call::Merge => vdaf::merge(param, agg, share),
+        Call::Accumulate => vdaf::accumulate(param, agg, share),
+        Call::Subtract => vdaf::subtract(param, agg, share),
+        Call::Unmerge => vdaf::unmerge(param, agg, share),
     }
 }
 
-// Adds a row. `before` has room for the aggregate as it was.
-fn add(param: PineParam, agg: &mut [u64], share: &[u64], before: &mut [u64], merging: bool) -> Sum {
+// Adds a row, or takes it out. `before` has room for the aggregate as it was.
+fn add(which: Call, param: PineParam, agg: &mut [u64], share: &[u64], before: &mut [u64]) -> Sum {
     row::copy(agg, before);
-    let answer = merge_or_accumulate(param, agg, share, merging);
+    let answer = make(which, param, agg, share);
     Sum {
         answer,
         kept: row::begins(before, agg),
@@ -50,7 +59,7 @@ fn adding_in(
     c: Cursor,
     out: &mut [u8],
     at: usize,
-    merging: bool,
+    which: Call,
     agg: &mut [u64],
     share: &mut [u64],
     before: &mut [u64],
@@ -63,16 +72,16 @@ fn adding_in(
     }
     let n = agg_row.len;
     let m = share_row.len;
-    let sum = add(read.param, &mut agg[0..n], &share[0..m], before, merging);
+    let sum = add(which, read.param, &mut agg[0..n], &share[0..m], before);
     answer_sum(out, at, sum, &agg[0..n])
 }
 
-// merge or accumulate.
-pub fn adding(line: &[u8], c: Cursor, out: &mut [u8], at: usize, merging: bool) -> usize {
+// merge, accumulate, subtract or unmerge.
+pub fn adding(line: &[u8], c: Cursor, out: &mut [u8], at: usize, which: Call) -> usize {
     let mut agg = [0u64; 8192];
     let mut share = [0u64; 8192];
     let mut before = [0u64; 8192];
-    adding_in(line, c, out, at, merging, &mut agg, &mut share, &mut before)
+    adding_in(line, c, out, at, which, &mut agg, &mut share, &mut before)
 }
 
 // Reads so many rows, one over the other.
@@ -102,7 +111,7 @@ fn add_rows(
     while i < count {
         let read = words::elements(line, next, row);
         let n = read.len;
-        let sum = add(param, agg, &row[0..n], before, false);
+        let sum = add(Call::Accumulate, param, agg, &row[0..n], before);
         let answer = sum.answer;
         if answer.number != 0 {
             return sum;

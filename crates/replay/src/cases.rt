@@ -1,5 +1,6 @@
 // The commands: what each reads of its line, and what it answers.
 use crate::aggregates;
+use crate::aggregates::Call;
 use crate::circuits;
 use crate::inputs::read_param;
 use crate::reports;
@@ -106,13 +107,24 @@ fn of_reports(name: &[u8], line: &[u8], c: Cursor, out: &mut [u8], at: usize) ->
     bad(out, at)
 }
 
-// The commands on aggregates, and those above.
+// The commands that take out of an aggregate, and those above.
+fn of_withdrawals(name: &[u8], line: &[u8], c: Cursor, out: &mut [u8], at: usize) -> usize {
+    if check::same(name, b"subtract") {
+        return aggregates::adding(line, c, out, at, Call::Subtract);
+    }
+    if check::same(name, b"unmerge") {
+        return aggregates::adding(line, c, out, at, Call::Unmerge);
+    }
+    of_reports(name, line, c, out, at)
+}
+
+// The other commands on aggregates, and those above.
 fn of_aggregates(name: &[u8], line: &[u8], c: Cursor, out: &mut [u8], at: usize) -> usize {
     if check::same(name, b"merge") {
-        return aggregates::adding(line, c, out, at, true);
+        return aggregates::adding(line, c, out, at, Call::Merge);
     }
     if check::same(name, b"accumulate") {
-        return aggregates::adding(line, c, out, at, false);
+        return aggregates::adding(line, c, out, at, Call::Accumulate);
     }
     if check::same(name, b"aggregate") {
         return aggregates::aggregate(line, c, out, at);
@@ -120,7 +132,7 @@ fn of_aggregates(name: &[u8], line: &[u8], c: Cursor, out: &mut [u8], at: usize)
     if check::same(name, b"unshard") {
         return aggregates::unshard(line, c, out, at);
     }
-    of_reports(name, line, c, out, at)
+    of_withdrawals(name, line, c, out, at)
 }
 
 // Answers a line.

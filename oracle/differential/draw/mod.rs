@@ -80,6 +80,15 @@ fn adding(random: &mut Random, call: Call) -> Case {
     with_rows(call, param, vec![Row::Aggregate(agg), Row::Elements(share)])
 }
 
+/// Two rows whose differences, or sums, are often such that matter.
+fn taking_out(random: &mut Random, call: Call) -> Case {
+    let (param, agg, mut share) = two_rows(random);
+    if !random.once_in(4) {
+        share.iter_mut().for_each(|x| *x = elements::negated(*x));
+    }
+    with_rows(call, param, vec![Row::Aggregate(agg), Row::Elements(share)])
+}
+
 fn unshard(random: &mut Random) -> Case {
     let (param, left, right) = two_rows(random);
     let decoded = written(random, left.len());
@@ -97,6 +106,7 @@ pub fn case(random: &mut Random, call: Call) -> Case {
         Call::GradientPart | Call::CheckedPart | Call::ResultsPart => part(random, call),
         Call::EmptyAggregate => empty_aggregate(random),
         Call::Accumulate | Call::Merge => adding(random, call),
+        Call::Subtract | Call::Unmerge => taking_out(random, call),
         Call::Unshard => unshard(random),
     };
     for _ in 0..random.pick(&[0, 0, 0, 0, 0, 0, 1, 1, 2, 3]) {
