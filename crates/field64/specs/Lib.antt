@@ -1,3 +1,4 @@
--- Arithmetic modulo any number, with Field64's modulus, and sums of rows.
+-- Arithmetic modulo any number, with Field64's modulus; sums of rows; primes.
 pub mod Field
 pub mod Sums
+pub mod Prime

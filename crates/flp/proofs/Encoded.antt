@@ -12,16 +12,16 @@ use Rattle.field64.proofs.Modular.{sub-is}
 use Rattle.field64.proofs.Sums.{evaluate-below}
 use Rattle.pine.specs.declared.PineParam.{PineParam}
 use Rattle.rows.specs.Rows.{Below}
-use Rattle.pine.specs.Record.{sqNormBound, sqNormBits, wrTestBound, wrTestBits, bitCheckedLen, encodedInputLen, inputLen, bytesPerTest, gadgetCalls, gadgetCallsNorm}
+use Rattle.pine.specs.Record.{sqNormBound, sqNormBits, wrTestBound, wrTestBits, bitCheckedLen, encodedInputLen, inputLen, bytesPerTest}
 use Rattle.pine.proofs.Digits.{digits-above}
 use Rattle.pine.proofs.Sizes.{bound-positive, bits-power}
 use Rattle.rows.proofs.Elements.{below-append, below-more}
 use Rattle.flp.specs.Bits.{bits, groups}
 use Rattle.flp.specs.Encode.{sqNorm, testBits, resultsOf, measurementOf, rangeRule}
-use Rattle.flp.specs.Circuits.{gradientPart, checkedPart, resultsPart, testParts, normV, normU, validValue, validCalls, validEqualValue, validEqualCalls}
+use Rattle.flp.specs.Circuits.{gradientPart, checkedPart, resultsPart, testParts, normV, normU, validEqualValue, WellFormed}
 use Rattle.flp.proofs.Bits.{length-bits, bits-below, number-bits}
 use Rattle.flp.proofs.Tests.{length-tests, tests-below}
-use Rattle.flp.proofs.Circuits.{chunks-taken, partsOf, test-bits-below, length-test-bits, groups-test-bits, termN-zero, test-terms-zero, termG-zero, in-range, WellFormed, well-formed-zero}
+use Rattle.flp.proofs.Circuits.{partsOf, test-bits-below, length-test-bits, groups-test-bits, termN-zero, test-terms-zero, termG-zero, in-range}
 
 bound-fits : (i : PineParam) (v : ℕ) → v ≤ sqNormBound i → v < 2 ^ sqNormBits i
 unfolding sqNormBits
@@ -145,23 +145,12 @@ module _ (p : ℕ) (i : PineParam) (stream xs : List ℕ) (h : Sound p i stream 
     bits = rw checked-is checked-below;
     norm = rw (normV-is, normU-is) (termN-zero p (h .big) (sqNormBound i) v (h .norm));
     tests = rw (parts-is, results-is) (test-terms-zero p (h .big) (wrTestBound i) (wrTestBits i) (i .«num_wr_successes») rs shifted);
-    count = rw parts-is (termG-zero p (h .big) (wrTestBits i) (wrTestBound i) (i .«num_wr_successes») rs (omega (arith, length-results, h .successes)));
+    successes = rw parts-is (termG-zero p (h .big) (wrTestBits i) (wrTestBound i) (i .«num_wr_successes») rs (omega (arith, length-results, h .successes)));
   }
 
-  pub main-zero : (joint : List ℕ) → validValue p i 1 fullOf joint ≡ 0
-  main-zero joint = well-formed-zero p (h .big) i fullOf joint well-formed
-
-  pub norm-zero : validEqualValue p i fullOf ≡ 0
+  pub norm-equal : validEqualValue p i fullOf ≡ 0
   unfolding validEqualValue v
-  norm-zero = rw (normV-is, gradient-is) (sub-is p positive (sqNorm p xs % p) (sqNorm p xs) 0 (le-of-lt v-below) (rw (zero-add, mod-mod)) ∙ zero-mod p)
-
-  pub main-calls : 0 < i .«chunk_len» → validCalls i fullOf ≡ gadgetCalls i
-  unfolding gadgetCalls validCalls
-  main-calls c = rw (chunks-taken _ c (checkedPart i fullOf), chunks-taken _ c (resultsPart i fullOf), checked-is, results-is, length-checked, length-results)
-
-  pub norm-calls : 0 < i .«chunk_len_sq_norm_equal» → validEqualCalls i fullOf ≡ gadgetCallsNorm i
-  unfolding gadgetCallsNorm validEqualCalls
-  norm-calls c = rw (chunks-taken _ c (gradientPart i fullOf), gradient-is, h .long)
+  norm-equal = rw (normV-is, gradient-is) (sub-is p positive (sqNorm p xs % p) (sqNorm p xs) 0 (le-of-lt v-below) (rw (zero-add, mod-mod)) ∙ zero-mod p)
 
   pub length-full : length fullOf ≡ inputLen i
   unfolding fullOf inputLen rs

@@ -51,6 +51,9 @@ pub accepts : (rules : List Answer) → Passed rules → inOrder rules ≡ accep
 accepts [] h = refl
 accepts (a ∷ rest) h = rw (eq-eqb (a .number) 0 (h .0)) (accepts rest (h .1))
 
+pub none : {a : Answer} → a ≡ accepted → a .number ≡ 0
+none e = ap (λ (a : Answer). a .number) e
+
 -- an answer whose number is 0 is `accepted` itself
 pub accepted-whole : (rules : List Answer) → inOrder rules .number ≡ 0 → inOrder rules ≡ accepted
 accepted-whole rules h = accepts rules (passed rules h)
