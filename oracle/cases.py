@@ -3,12 +3,13 @@
 A case is a line to ask, and what must be answered to it:
 
     OK                       document 01 accepts it: the original's own `ok ..` line, whatever that is
-    ok VEC                   the same, of subtract and unmerge, which the original has no call for
+    ok VEC                   the same, of subtract, unmerge and a part of a full vector, which the original has no call for
     refused NUMBER PLACE     document 01 refuses it, by the first rule broken
     bad                      the line is malformed
     nothing                  a blank line or a comment, which has no answer
 
-Only refusals and what is taken out are worked out here. What any other accepted case gives is known to the original alone.
+Only refusals, what is taken out and the parts are worked out here. What any other accepted case gives is known to the
+original alone.
 
 A kind of case is one entry of KINDS: `draw(rng)` gives one random case; `limits()`, if there is one, lists the
 few hundred that belong in the gate's list; `sweep()` the many that are run only when all edges are asked for.
@@ -20,11 +21,12 @@ import random
 
 import aggregates
 import circuits
+import parts
 import reports
 import singles
 from common import BAD, NONE, OK, TOP, Case, below
 
-KINDS = {**singles.KINDS, **reports.KINDS, **circuits.KINDS, **aggregates.KINDS}
+KINDS = {**singles.KINDS, **reports.KINDS, **circuits.KINDS, **parts.KINDS, **aggregates.KINDS}
 
 
 # Malformed lines, and lines without an answer
@@ -33,7 +35,7 @@ NONSENSE = ("-1", "-", "x", "1x", "x1", "1.0", "1_0", "1,0", "1e+3", "NaN", "inf
 NOT_DECIMAL = ("a", "ff", "1f", "0x1")
 
 # The word after the seven inputs is a count.
-COUNTED = ("merge", "accumulate", "aggregate", "unshard", "encode", "wrtests", *aggregates.TAKING)
+COUNTED = ("merge", "accumulate", "aggregate", "unshard", "encode", "wrtests", *aggregates.TAKING, *parts.KINDS)
 
 
 def spoil(rng, case):

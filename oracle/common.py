@@ -1,6 +1,7 @@
 """What the kinds of case share: document 01's limits, lengths and rules, and ways to draw numbers and rows.
 
-Lengths, and what rules 10 and 11 ask, are worked out here from document 01 and used for refusals only.
+Lengths, and what rules 10 and 11 ask, are worked out here from document 01 and used for refusals only; the lengths also
+for the parts of a full vector, which the original does not hand back.
 """
 
 import itertools

@@ -10,47 +10,58 @@ use borrow.Author.Tests.{eq-eqb, ne-eqb, eqb-true}
 use Rattle.rules.specs.declared.Answer.{Answer}
 use Rattle.rules.specs.Rules.{inOrder}
 use Rattle.pine.specs.declared.PineParam.{PineParam}
+use Rattle.pine.specs.declared.record.Pine.{Pine}
 use Rattle.pine.specs.Param.{Field64}
-use Rattle.pine.specs.Record.{inputLen}
-use Rattle.rows.specs.Outcome.{outcome, finish}
+use Rattle.pine.specs.Record.{inputLen, pineOf, noPine}
+use Rattle.rows.specs.Outcome.{outcome}
 use Rattle.flp.specs.Circuits.{partRules, partOf}
 use Rattle.parts.specs.declared.Part.{Part}
-use Rattle.parts.specs.Places.{partAt, named}
+use Rattle.parts.specs.declared.Verdict.{Verdict}
+use Rattle.parts.specs.Places.{partAt, named, verdictOf}
 use Rattle.parts.proofs.Vectors.{part-met}
 
--- the elements between a part's ends
-pub handed-back : (part : Part) (row : List ℕ) → outcome (part .answer) (take (part .start + part .len - part .start) (drop (part .start) row)) ≡ named part row
-handed-back part row =
-    let e : part .start + part .len - part .start ≡ part .len = omega arith in
+-- the elements between two ends
+pub between-is : (s n : ℕ) (row : List ℕ) → take (s + n - s) (drop s row) ≡ take n (drop s row)
+between-is s n row =
+    let e : s + n - s ≡ n = omega arith in
     rw e
 
--- a place names the elements there
-named-is : (a : Answer) (row : List ℕ) (s n : ℕ) → named (partAt a s n) row ≡ finish a (take n (drop s row)) []
-named-is a row s n = go (eqb (a .number) 0)
-  where
-    go : (t : Bool) → outcome a (take (cond t n 0) (drop (cond t s 0) row)) ≡ outcome a (cond t (take n (drop s row)) [])
-    go true = refl
-    go false = refl
+module _ (i : PineParam) (full : List ℕ) where
+  abbrev rules : Answer
+  rules = inOrder (partRules Field64 i full)
 
--- n elements from s on
-module _ (i : PineParam) (full : List ℕ) (s n : ℕ) where
-  -- the place of a part, and what it names
-  both : (r : Part) → r ≡ partAt (inOrder (partRules Field64 i full)) s n → (r ≡ partAt (inOrder (partRules Field64 i full)) s n) × (named r full ≡ partOf Field64 i full (take n (drop s full)))
-  unfolding partOf
-  both r e = (e, ap (λ (x : Part). named x full) e ∙ named-is (inOrder (partRules Field64 i full)) full s n)
+  -- ---- the verdict
 
-  pub placed-none : (r : Part) (a : Answer) → a ≡ inOrder (partRules Field64 i full) → (a .number ≡ 0 → ⊥) → r ≡ record { answer = a; start = 0; len = 0 }
-      → (r ≡ partAt (inOrder (partRules Field64 i full)) s n) × (named r full ≡ partOf Field64 i full (take n (drop s full)))
-  placed-none r a e h er = both r (er ∙ rw (← e, ne-eqb (a .number) 0 h))
+  pub refused-is : (v : Verdict) (a : Answer) → a ≡ rules → (a .number ≡ 0 → ⊥) → v ≡ record { answer = a; pine = noPine } → v ≡ verdictOf Field64 i full
+  refused-is v a e h ev = ev ∙ rw (← e, ne-eqb (a .number) 0 h)
 
-  pub placed : (a : Answer) (start len : ℕ) → a ≡ inOrder (partRules Field64 i full) → a .number ≡ 0 → start ≡ s → len ≡ n
-      → (_≡_ {A = Part} (record { answer = a; start = start; len = len }) (partAt (inOrder (partRules Field64 i full)) s n)) × (named (record { answer = a; start = start; len = len }) full ≡ partOf Field64 i full (take n (drop s full)))
-  placed a start len e z es en = both (record { answer = a; start = start; len = len }) (rw (← e, eq-eqb (a .number) 0 z, es, en))
+  pub accepted-is : (a : Answer) (r : Pine) → a ≡ rules → a .number ≡ 0 → r ≡ pineOf i → _≡_ {A = Verdict} (record { answer = a; pine = r }) (verdictOf Field64 i full)
+  accepted-is a r e z er = rw (← e, eq-eqb (a .number) 0 z, er)
 
-  -- it is inside the row
-  pub inside : s + n ≤ inputLen i → (r : Part) → r ≡ partAt (inOrder (partRules Field64 i full)) s n → r .start + r .len ≤ length full
-  inside h r e = rw e (go (eqb (inOrder (partRules Field64 i full) .number) 0) refl)
-    where
-      go : (t : Bool) → eqb (inOrder (partRules Field64 i full) .number) 0 ≡ t → cond t s 0 + cond t n 0 ≤ length full
-      go true b = omega (arith, h, part-met i full (eqb-true _ 0 b) .long)
-      go false b = omega arith
+  -- ---- a part that the record names: g elements from f on
+
+  module _ (f g : Pine → ℕ) (f-none : f noPine ≡ 0) (g-none : g noPine ≡ 0) (v : Verdict) (e : v ≡ verdictOf Field64 i full) where
+    -- the elements there
+    pub cut-is : (xs : List ℕ) → xs ≡ take (g (v .pine)) (drop (f (v .pine)) full) → outcome (v .answer) xs ≡ partOf Field64 i full (take (g (pineOf i)) (drop (f (pineOf i)) full))
+    unfolding partOf
+    cut-is xs h = ap (outcome (v .answer)) h ∙ ap (λ (x : Verdict). outcome (x .answer) (take (g (x .pine)) (drop (f (x .pine)) full))) e ∙ go (eqb (rules .number) 0)
+      where
+        go : (t : Bool) → outcome rules (take (g (cond t (pineOf i) noPine)) (drop (f (cond t (pineOf i) noPine)) full)) ≡ outcome rules (cond t (take (g (pineOf i)) (drop (f (pineOf i)) full)) [])
+        go true = refl
+        go false = rw g-none
+
+    -- its place, and what it names
+    pub located : (_≡_ {A = Part} (record { answer = v .answer; start = f (v .pine); len = g (v .pine) }) (partAt rules (f (pineOf i)) (g (pineOf i)))) × (named (record { answer = v .answer; start = f (v .pine); len = g (v .pine) }) full ≡ partOf Field64 i full (take (g (pineOf i)) (drop (f (pineOf i)) full)))
+    located = (ap (λ (x : Verdict). record { answer = x .answer; start = f (x .pine); len = g (x .pine) }) e ∙ go (eqb (rules .number) 0), cut-is _ refl)
+      where
+        go : (t : Bool) → _≡_ {A = Part} (record { answer = rules; start = f (cond t (pineOf i) noPine); len = g (cond t (pineOf i) noPine) }) (record { answer = rules; start = cond t (f (pineOf i)) 0; len = cond t (g (pineOf i)) 0 })
+        go true = refl
+        go false = rw (f-none, g-none)
+
+    -- it is inside the row
+    pub inside : f (pineOf i) + g (pineOf i) ≤ inputLen i → f (v .pine) + g (v .pine) ≤ length full
+    inside h = rw e (go (eqb (rules .number) 0) refl)
+      where
+        go : (t : Bool) → eqb (rules .number) 0 ≡ t → f (cond t (pineOf i) noPine) + g (cond t (pineOf i) noPine) ≤ length full
+        go true b = omega (arith, h, part-met i full (eqb-true _ 0 b) .long)
+        go false b = omega (arith, f-none, g-none)

@@ -2,15 +2,16 @@
 use pine::PineParam;
 use pine::record::Pine;
 use rules::Answer;
+
+pub mod cut;
+
 ghost use mathlib.Core.Path.{_≡_};
-ghost use Prim.Native.Nat.{_+_, _≤_};
-ghost use lib.ListN.{length};
 ghost use Rattle.rules.specs.Rules.{answer, inOrder};
 ghost use Rattle.pine.specs.Param.{Field64};
-ghost use Rattle.pine.specs.Record.{bitCheckedLen, encodedInputLen};
+ghost use Rattle.pine.specs.Record.{bitCheckedLen, encodedInputLen, noPine};
 ghost use Rattle.rows.specs.Outcome.{outcome};
 ghost use Rattle.flp.specs.Circuits.{partRules, gradientPartOf, checkedPartOf, resultsPartOf};
-ghost use Rattle.parts.specs.Places.{partAt, named};
+ghost use Rattle.parts.specs.Places.{partAt, named, verdictOf};
 
 // A part of a row by its place: len elements from start on. Both are 0 beside a refusal.
 #[repr(C)]
@@ -20,30 +21,38 @@ pub struct Part {
     pub len: u64,
 }
 
+// The answer of the rules, and the record. Beside a refusal that is all 0, so that each part is empty.
+struct Verdict {
+    answer: Answer,
+    pine: Pine,
+}
+
+impl Verdict {
+    fn refused(answer: Answer) -> Verdict
+        ensures { λ r. ⌜ r ≡ record { answer = answer; pine = noPine } ⌝ }
+    {
+        Verdict {
+            answer,
+            pine: Pine::none(),
+        }
+    }
+}
+
 // The rules of each part.
-fn check_part(param: PineParam, full: &[u64]) -> Answer
-    ensures { λ r. ⌜ r ≡ inOrder (partRules Field64 param (now (full .entry))) ⌝ }
+fn check_part(param: PineParam, full: &[u64]) -> Verdict
+    ensures { λ r. ⌜ r ≡ verdictOf Field64 param (now (full .entry)) ⌝ }
 {
     let inputs = params::check_param(param);
     if inputs.number != 0 {
-        return inputs;
+        return Verdict::refused(inputs);
     }
     let pine = Pine::new(param);
     let row_1 = rows::check_len(1, full.len(), pine.input_len());
-    row_1.or(rows::check_elements(full, 0))
-}
-
-impl Part {
-    // What stands beside a refusal.
-    fn none(answer: Answer) -> Part
-        ensures { λ r. ⌜ r ≡ record { answer = answer; start = 0; len = 0 } ⌝ }
-    {
-        Part {
-            answer,
-            start: 0,
-            len: 0,
-        }
+    let answer = row_1.or(rows::check_elements(full, 0));
+    if answer.number != 0 {
+        return Verdict::refused(answer);
     }
+    Verdict { answer, pine }
 }
 
 // The first clause of each place says where it is, the second which elements stand there.
@@ -52,15 +61,13 @@ pub fn locate_gradient(param: PineParam, full: &[u64]) -> Part
     ensures { λ r. ⌜ r ≡ partAt (inOrder (partRules Field64 param (now (full .entry)))) 0 (param .dimension) ⌝ }
     ensures { λ r. ⌜ named r (now (full .entry)) ≡ gradientPartOf Field64 param (now (full .entry)) ⌝ }
 {
-    let answer = check_part(param, full);
-    if answer.number != 0 {
-        return Part::none(answer);
-    }
-    let start = 0;
+    let verdict = check_part(param, full);
+    let answer = verdict.answer;
+    let pine = verdict.pine;
     Part {
         answer,
-        start,
-        len: param.dimension,
+        start: 0,
+        len: pine.dimension,
     }
 }
 
@@ -68,11 +75,9 @@ pub fn locate_checked(param: PineParam, full: &[u64]) -> Part
     ensures { λ r. ⌜ r ≡ partAt (inOrder (partRules Field64 param (now (full .entry)))) (param .dimension) (bitCheckedLen param) ⌝ }
     ensures { λ r. ⌜ named r (now (full .entry)) ≡ checkedPartOf Field64 param (now (full .entry)) ⌝ }
 {
-    let answer = check_part(param, full);
-    if answer.number != 0 {
-        return Part::none(answer);
-    }
-    let pine = Pine::new(param);
+    let verdict = check_part(param, full);
+    let answer = verdict.answer;
+    let pine = verdict.pine;
     Part {
         answer,
         start: pine.dimension,
@@ -84,11 +89,9 @@ pub fn locate_results(param: PineParam, full: &[u64]) -> Part
     ensures { λ r. ⌜ r ≡ partAt (inOrder (partRules Field64 param (now (full .entry)))) (encodedInputLen param) (param .«num_wr_tests») ⌝ }
     ensures { λ r. ⌜ named r (now (full .entry)) ≡ resultsPartOf Field64 param (now (full .entry)) ⌝ }
 {
-    let answer = check_part(param, full);
-    if answer.number != 0 {
-        return Part::none(answer);
-    }
-    let pine = Pine::new(param);
+    let verdict = check_part(param, full);
+    let answer = verdict.answer;
+    let pine = verdict.pine;
     Part {
         answer,
         start: pine.encoded_input_len,
@@ -96,17 +99,16 @@ pub fn locate_results(param: PineParam, full: &[u64]) -> Part
     }
 }
 
-// The part itself: number and place go into two lent numbers, and a refused one is empty.
-fn hand_back<'a>(full: &'a [u64], part: Part, number: &mut u64, place: &mut u64) -> &'a [u64]
-    requires { ⌜ part .start + part .len ≤ length (now full) ⌝ }
-    ensures { λ r. ⌜ outcome (answer (now (number .exit)) (now (place .exit))) (now r) ≡ named part (now (full .entry)) ⌝ }
+// The rules of a part that is handed back: number and place go into two lent numbers. What comes back
+// is the record.
+fn check_into(param: PineParam, full: &[u64], number: &mut u64, place: &mut u64) -> Pine
+    ensures { λ r. ⌜ record { answer = answer (now (number .exit)) (now (place .exit)); pine = r } ≡ verdictOf Field64 param (now (full .entry)) ⌝ }
 {
-    let verdict = part.answer;
-    *number = verdict.number;
-    *place = verdict.place;
-    let start = part.start as usize;
-    let end = start + part.len as usize;
-    &full[start..end]
+    let verdict = check_part(param, full);
+    let answer = verdict.answer;
+    *number = answer.number;
+    *place = answer.place;
+    verdict.pine
 }
 
 // The gradient.
@@ -118,8 +120,8 @@ pub fn gradient_part<'a>(
 ) -> &'a [u64]
     ensures { λ r. ⌜ outcome (answer (now (number .exit)) (now (place .exit))) (now r) ≡ gradientPartOf Field64 param (now (full .entry)) ⌝ }
 {
-    let part = locate_gradient(param, full);
-    hand_back(full, part, number, place)
+    let pine = check_into(param, full, number, place);
+    cut::gradient(pine, full)
 }
 
 // The L checked elements.
@@ -131,8 +133,8 @@ pub fn checked_part<'a>(
 ) -> &'a [u64]
     ensures { λ r. ⌜ outcome (answer (now (number .exit)) (now (place .exit))) (now r) ≡ checkedPartOf Field64 param (now (full .entry)) ⌝ }
 {
-    let part = locate_checked(param, full);
-    hand_back(full, part, number, place)
+    let pine = check_into(param, full, number, place);
+    cut::checked(pine, full)
 }
 
 // The results of the tests.
@@ -144,6 +146,6 @@ pub fn results_part<'a>(
 ) -> &'a [u64]
     ensures { λ r. ⌜ outcome (answer (now (number .exit)) (now (place .exit))) (now r) ≡ resultsPartOf Field64 param (now (full .entry)) ⌝ }
 {
-    let part = locate_results(param, full);
-    hand_back(full, part, number, place)
+    let pine = check_into(param, full, number, place);
+    cut::results(pine, full)
 }

@@ -4,6 +4,8 @@ use crate::aggregates::Call;
 use crate::circuits;
 use crate::inputs::read_param;
 use crate::reports;
+use crate::vectors;
+use crate::vectors::Which;
 use answers::answer_hex;
 use answers::bad;
 use answers::print;
@@ -90,7 +92,21 @@ fn decode(line: &[u8], c: Cursor, out: &mut [u8], at: usize) -> usize {
     answer_hex(out, at, decoded.answer, pattern_of(decoded.value), 16)
 }
 
-// The commands on a report and on the circuits.
+// The commands on the parts of a full vector.
+fn of_vectors(name: &[u8], line: &[u8], c: Cursor, out: &mut [u8], at: usize) -> usize {
+    if check::same(name, b"gradient_part") {
+        return vectors::part(line, c, out, at, Which::Gradient);
+    }
+    if check::same(name, b"checked_part") {
+        return vectors::part(line, c, out, at, Which::Checked);
+    }
+    if check::same(name, b"results_part") {
+        return vectors::part(line, c, out, at, Which::Results);
+    }
+    bad(out, at)
+}
+
+// The commands on a report and on the circuits, and those above.
 fn of_reports(name: &[u8], line: &[u8], c: Cursor, out: &mut [u8], at: usize) -> usize {
     if check::same(name, b"encode") {
         return reports::encode(line, c, out, at);
@@ -104,7 +120,7 @@ fn of_reports(name: &[u8], line: &[u8], c: Cursor, out: &mut [u8], at: usize) ->
     if check::same(name, b"valideq") {
         return circuits::valideq(line, c, out, at);
     }
-    bad(out, at)
+    of_vectors(name, line, c, out, at)
 }
 
 // The commands that take out of an aggregate, and those above.

@@ -8,6 +8,7 @@ mod cases;
 mod circuits;
 mod inputs;
 mod reports;
+mod vectors;
 
 ghost use mathlib.Core.Path.{_≡_};
 ghost use Prim.Native.Nat.{_≤_};

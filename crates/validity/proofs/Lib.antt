@@ -1,4 +1,4 @@
--- What the proofs of the functions cite: `Verdicts` of the rules, `Parts` of the parts of the vector, `Cut` of the circuits on them.
+-- What the proofs of the functions cite: `Verdicts` of the rules, `Fit` of the derived record, `Cut` of the circuits on the parts of a vector.
 mod Verdicts
-mod Parts
+mod Fit
 mod Cut

@@ -1,24 +1,28 @@
 -- `parts::checked_part` meets its contract. Assumes nothing.
-use mathlib.Core.Path.{_∙_}
-use native.Mathlib.Omega.{arith}
+use mathlib.Core.Path.{refl}
 use borrow.Author.Needs.{needs}
-use Rattle.pine.specs.Record.{bitCheckedLen, encodedInputLen, inputLen}
-use Rattle.parts.proofs.Places.{inside}
+use Rattle.pine.specs.declared.record.Pine.{Pine}
+use Rattle.pine.specs.Record.{pineOf}
+use Rattle.flp.specs.Circuits.{checkedPartOf, checkedPart}
+use Rattle.parts.proofs.Cuts.{checked-ends}
+use Rattle.parts.proofs.Places.{cut-is, inside}
 use Rattle.parts.proofs.checked_part.Statement.{statement}
 use Rattle.parts.proofs.checked_part.Tie as tie
 
-locate-checked-requires : tie.Need-locate-checked-requires
-locate-checked-requires c κs = search needs
+check-into-requires : tie.Need-check-into-requires
+check-into-requires c κs = search needs
 
-hand-back-requires : tie.Need-hand-back-requires
-unfolding inputLen encodedInputLen
-hand-back-requires c κs =
-    let l = c .before .before in
-    let a = l .before .before .args in
-    inside (a .param) (a .full .now) (a .param .dimension) (bitCheckedLen (a .param)) (omega arith) _ (l .locate-checked .ensures .0)
+checked-requires : tie.Need-checked-requires
+unfolding pineOf
+checked-requires c κs =
+    let a = c .before .before .before .before .args in
+    inside (a .param) (a .full .now) (λ (r : Pine). r .dimension) (λ (r : Pine). r .«bit_checked_len») refl refl _ (c .check-into .ensures) (checked-ends (a .param))
 
 returns : tie.Need-returns
-returns c = c .hand-back .ensures ∙ c .before .before .before .locate-checked .ensures .1
+unfolding checkedPartOf checkedPart pineOf
+returns c =
+    let a = c .before .before .before .before .before .args in
+    cut-is (a .param) (a .full .now) (λ (r : Pine). r .dimension) (λ (r : Pine). r .«bit_checked_len») refl refl _ (c .before .check-into .ensures) _ (c .checked .ensures)
 
 pub checked-part-spec : {M : Type 1} → statement M
-checked-part-spec = tie.close (tie.spec locate-checked-requires hand-back-requires returns)
+checked-part-spec = tie.close (tie.spec check-into-requires checked-requires returns)

@@ -1,24 +1,29 @@
 -- `parts::gradient_part` meets its contract. Assumes nothing.
-use mathlib.Core.Path.{_∙_}
+use mathlib.Core.Path.{refl}
 use native.Mathlib.Omega.{arith}
 use borrow.Author.Needs.{needs}
-use Rattle.pine.specs.Record.{inputLen, encodedInputLen}
-use Rattle.parts.proofs.Places.{inside}
+use Rattle.pine.specs.declared.record.Pine.{Pine}
+use Rattle.pine.specs.Record.{pineOf}
+use Rattle.flp.specs.Circuits.{gradientPartOf, gradientPart}
+use Rattle.parts.proofs.Cuts.{gradient-ends}
+use Rattle.parts.proofs.Places.{cut-is, inside}
 use Rattle.parts.proofs.gradient_part.Statement.{statement}
 use Rattle.parts.proofs.gradient_part.Tie as tie
 
-locate-gradient-requires : tie.Need-locate-gradient-requires
-locate-gradient-requires c κs = search needs
+check-into-requires : tie.Need-check-into-requires
+check-into-requires c κs = search needs
 
-hand-back-requires : tie.Need-hand-back-requires
-unfolding inputLen encodedInputLen
-hand-back-requires c κs =
-    let l = c .before .before in
-    let a = l .before .before .args in
-    inside (a .param) (a .full .now) 0 (a .param .dimension) (omega arith) _ (l .locate-gradient .ensures .0)
+gradient-requires : tie.Need-gradient-requires
+unfolding pineOf
+gradient-requires c κs =
+    let a = c .before .before .before .before .args in
+    omega (arith, inside (a .param) (a .full .now) (λ (r : Pine). 0) (λ (r : Pine). r .dimension) refl refl _ (c .check-into .ensures) (gradient-ends (a .param)))
 
 returns : tie.Need-returns
-returns c = c .hand-back .ensures ∙ c .before .before .before .locate-gradient .ensures .1
+unfolding gradientPartOf gradientPart pineOf
+returns c =
+    let a = c .before .before .before .before .before .args in
+    cut-is (a .param) (a .full .now) (λ (r : Pine). 0) (λ (r : Pine). r .dimension) refl refl _ (c .before .check-into .ensures) _ (c .gradient .ensures)
 
 pub gradient-part-spec : {M : Type 1} → statement M
-gradient-part-spec = tie.close (tie.spec locate-gradient-requires hand-back-requires returns)
+gradient-part-spec = tie.close (tie.spec check-into-requires gradient-requires returns)

@@ -1,36 +1,22 @@
 -- `parts::locate_checked` meets its contract. Assumes nothing.
-use mathlib.Core.Path.{ap}
+use mathlib.Core.Path.{refl}
 use borrow.Author.Needs.{needs}
 use Rattle.pine.specs.declared.record.Pine.{Pine}
-use Rattle.pine.specs.Record.{bitCheckedLen, pineOf}
+use Rattle.pine.specs.Record.{pineOf}
 use Rattle.flp.specs.Circuits.{checkedPartOf, checkedPart}
-use Rattle.parts.proofs.Vectors.{inputs-met}
-use Rattle.parts.proofs.Places.{placed-none, placed}
+use Rattle.parts.proofs.Places.{located}
 use Rattle.parts.proofs.locate_checked.Statement.{statement}
 use Rattle.parts.proofs.locate_checked.Tie as tie
 
 check-part-requires : tie.Need-check-part-requires
 check-part-requires c κs = search needs
 
-none-requires : tie.Need-none-requires
-none-requires c κs = search needs
-
 returns : tie.Need-returns
-unfolding checkedPartOf checkedPart
-returns c =
-    let b = c .before .before .before in
-    let a = b .before .before .args in
-    placed-none (a .param) (a .full .now) (a .param .dimension) (bitCheckedLen (a .param)) _ _ (b .check-part .ensures) (c .before .if1 .taken) (c .none .ensures)
-
-new-requires : tie.Need-new-requires
-new-requires c κs = inputs-met _ _ _ (c .before .before .check-part .ensures) (c .if1 .left)
-
-returns-2 : tie.Need-returns-2
 unfolding checkedPartOf checkedPart pineOf
-returns-2 c =
-    let b = c .before .before .before in
+returns c =
+    let b = c .before .before in
     let a = b .before .before .args in
-    placed (a .param) (a .full .now) (a .param .dimension) (bitCheckedLen (a .param)) _ _ _ (b .check-part .ensures) (c .before .if1 .left) (ap (λ (x : Pine). x .dimension) (c .new .ensures)) (ap (λ (x : Pine). x .«bit_checked_len») (c .new .ensures))
+    located (a .param) (a .full .now) (λ (r : Pine). r .dimension) (λ (r : Pine). r .«bit_checked_len») refl refl _ (b .check-part .ensures)
 
 pub locate-checked-spec : {M : Type 1} → statement M
-locate-checked-spec = tie.close (tie.spec check-part-requires none-requires returns new-requires returns-2)
+locate-checked-spec = tie.close (tie.spec check-part-requires returns)

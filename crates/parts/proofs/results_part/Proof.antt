@@ -1,24 +1,28 @@
 -- `parts::results_part` meets its contract. Assumes nothing.
-use mathlib.Core.Path.{_∙_}
-use native.Mathlib.Omega.{arith}
+use mathlib.Core.Path.{refl}
 use borrow.Author.Needs.{needs}
-use Rattle.pine.specs.Record.{encodedInputLen, inputLen}
-use Rattle.parts.proofs.Places.{inside}
+use Rattle.pine.specs.declared.record.Pine.{Pine}
+use Rattle.pine.specs.Record.{pineOf}
+use Rattle.flp.specs.Circuits.{resultsPartOf, resultsPart}
+use Rattle.parts.proofs.Cuts.{results-ends}
+use Rattle.parts.proofs.Places.{cut-is, inside}
 use Rattle.parts.proofs.results_part.Statement.{statement}
 use Rattle.parts.proofs.results_part.Tie as tie
 
-locate-results-requires : tie.Need-locate-results-requires
-locate-results-requires c κs = search needs
+check-into-requires : tie.Need-check-into-requires
+check-into-requires c κs = search needs
 
-hand-back-requires : tie.Need-hand-back-requires
-unfolding inputLen
-hand-back-requires c κs =
-    let l = c .before .before in
-    let a = l .before .before .args in
-    inside (a .param) (a .full .now) (encodedInputLen (a .param)) (a .param .«num_wr_tests») (omega arith) _ (l .locate-results .ensures .0)
+results-requires : tie.Need-results-requires
+unfolding pineOf
+results-requires c κs =
+    let a = c .before .before .before .before .args in
+    inside (a .param) (a .full .now) (λ (r : Pine). r .«encoded_input_len») (λ (r : Pine). r .«num_wr_tests») refl refl _ (c .check-into .ensures) (results-ends (a .param))
 
 returns : tie.Need-returns
-returns c = c .hand-back .ensures ∙ c .before .before .before .locate-results .ensures .1
+unfolding resultsPartOf resultsPart pineOf
+returns c =
+    let a = c .before .before .before .before .before .args in
+    cut-is (a .param) (a .full .now) (λ (r : Pine). r .«encoded_input_len») (λ (r : Pine). r .«num_wr_tests») refl refl _ (c .before .check-into .ensures) _ (c .results .ensures)
 
 pub results-part-spec : {M : Type 1} → statement M
-results-part-spec = tie.close (tie.spec locate-results-requires hand-back-requires returns)
+results-part-spec = tie.close (tie.spec check-into-requires results-requires returns)
