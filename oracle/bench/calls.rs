@@ -104,6 +104,7 @@ extern "C" {
     fn pine_empty_aggregate(param: Param, row: *mut u64, row_len: usize) -> Answer;
     fn pine_accumulate(param: Param, agg: *mut u64, agg_len: usize, share: *const u64, share_len: usize) -> Answer;
     fn pine_merge(param: Param, agg: *mut u64, agg_len: usize, other: *const u64, other_len: usize) -> Answer;
+    fn pine_subtract(param: Param, agg: *mut u64, agg_len: usize, share: *const u64, share_len: usize) -> Answer;
     fn pine_unshard(
         param: Param,
         left: *const u64,
@@ -507,21 +508,27 @@ fn empty_aggregate(d: usize) -> Row {
 }
 
 type Adding = unsafe extern "C" fn(Param, *mut u64, usize, *const u64, usize) -> Answer;
+type AddingByHand = fn([u64; 7], &mut [u64], &[u64]) -> Outcome<()>;
+type OriginalAdding = fn(&mut PineVec<Field64>, &PineVec<Field64>);
 
-fn adding(name: &str, d: usize, original: fn(&mut PineVec<Field64>, &PineVec<Field64>), call: Adding) -> Row {
-    let original = way(
+fn original_adding(call: OriginalAdding) -> Way<Two> {
+    way(
         original_two,
-        move |[agg, share]: &mut [PineVec<Field64>; 2]| original(agg, share),
+        move |[agg, share]: &mut [PineVec<Field64>; 2]| call(agg, share),
         |[agg, _], ()| words(&elements(agg)),
-    );
+    )
+}
+
+fn adding(name: &str, d: usize, original: Option<OriginalAdding>, call: Adding, by_hand: AddingByHand) -> Row {
     let ours = way(
         Two::clone,
         move |w: &mut Two| unsafe { call(w.param, w.left.as_mut_ptr(), w.left.len(), w.right.as_ptr(), w.right.len()) },
         left,
     );
-    let by_hand = way(Two::clone, |w: &mut Two| answer(&by_hand::accumulate(w.param.0, &mut w.left, &w.right)), left);
+    let by_hand = way(Two::clone, move |w: &mut Two| answer(&by_hand(w.param.0, &mut w.left, &w.right)), left);
     let title = title(name, d, "element", 16 * d);
-    row(title, move |r| two(r, d), Ways { original: Some(original), ours, by_hand: Some(by_hand) })
+    let original = original.map(original_adding);
+    row(title, move |r| two(r, d), Ways { original, ours, by_hand: Some(by_hand) })
 }
 
 fn bits(row: Vec<f64>, answer: Answer) -> Vec<u64> {
@@ -634,8 +641,11 @@ fn of_dimension(d: usize) -> Vec<Row> {
     rows.push(part("checked_part", d, pine_checked_part, 1));
     rows.push(part("results_part", d, pine_results_part, 2));
     rows.push(empty_aggregate(d));
-    rows.push(adding("accumulate", d, |agg, share| agg.accumulate(share).unwrap(), pine_accumulate));
-    rows.push(adding("merge", d, |agg, other| agg.merge(other).unwrap(), pine_merge));
+    let accumulate: OriginalAdding = |agg, share| agg.accumulate(share).unwrap();
+    let merge: OriginalAdding = |agg, other| agg.merge(other).unwrap();
+    rows.push(adding("accumulate", d, Some(accumulate), pine_accumulate, by_hand::accumulate));
+    rows.push(adding("merge", d, Some(merge), pine_merge, by_hand::accumulate));
+    rows.push(adding("subtract", d, None, pine_subtract, by_hand::subtract));
     rows.push(unshard(d));
     rows
 }

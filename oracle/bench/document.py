@@ -21,7 +21,7 @@ TABLES = (
     ("valid_sq_norm_equal",),
     ("gradient_part", "checked_part", "results_part"),
     ("empty_aggregate",),
-    ("accumulate", "merge"),
+    ("accumulate", "merge", "subtract"),
     ("unshard",),
     ("f64_to_field", "field_to_f64", "derive"),
 )
