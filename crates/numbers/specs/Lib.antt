@@ -1,0 +1,2 @@
+-- What the inner functions give.
+pub mod OneTest
