@@ -57,7 +57,8 @@ struct Part {
     len: u64,
 }
 
-/// The record, the stream's length and the lengths of both circuits. The third is the bits of a double.
+/// The record, the stream's length and the lengths of both circuits. The third is the bits of a double, the tenth a byte
+/// and what fills its word up.
 #[repr(C)]
 struct Derived {
     answer: Answer,
@@ -615,7 +616,9 @@ fn derive() -> Row {
             |param| unsafe { pine_derive(*param) },
             |_, derived| {
                 accepted(derived.answer);
-                derived.numbers.to_vec()
+                let mut numbers = derived.numbers.to_vec();
+                numbers[9] &= 0xff;
+                numbers
             },
         ),
         by_hand: None,

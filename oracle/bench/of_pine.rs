@@ -50,7 +50,7 @@ pub mod opened {
             flp.num_wr_successes as u64,
             u64::from(flp.sq_norm_bound),
             flp.sq_norm_bits as u64,
-            u64::from(flp.wr_test_bound),
+            u64::from(u64::from(flp.wr_test_bound).trailing_zeros()),
             flp.wr_test_bits as u64,
             flp.bit_checked_len as u64,
             pine.encoded_input_len as u64,

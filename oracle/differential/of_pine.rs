@@ -31,18 +31,20 @@ pub mod opened {
         [t.input_len(), t.proof_len(), t.verifier_len(), t.joint_rand_len(), t.prove_rand_len(), t.query_rand_len()]
     }
 
-    /// The numbers of PineDerived, in its order; the scale by its bits.
+    /// The numbers of PineDerived, in its order, then the test bound; the scale by its bits.
     pub fn record(pine: &Pine64) -> Vec<u64> {
         let (t, e) = (&pine.flp, &pine.flp_sq_norm_equal);
         let mut record = vec![t.dimension as u64, t.frac_bits as u64, scale(t.frac_bits).to_bits()];
         record.extend([t.chunk_len, e.chunk_len, t.num_wr_tests, t.num_wr_successes].map(|x| x as u64));
         record.extend([u64::from(t.sq_norm_bound), t.sq_norm_bits as u64]);
-        record.extend([u64::from(t.wr_test_bound), t.wr_test_bits as u64]);
+        let bound = u64::from(t.wr_test_bound);
+        record.extend([u64::from(bound.trailing_zeros()), t.wr_test_bits as u64]);
         record.extend([t.bit_checked_len, pine.encoded_input_len, t.input_len].map(|x| x as u64));
         record.extend([t.gadget_calls, e.gadget_calls].map(|x| x as u64));
         record.push((chunk_count(4, t.dimension) * t.num_wr_tests) as u64);
         record.extend(lengths(t).map(|x| x as u64));
         record.extend(lengths(e).map(|x| x as u64));
+        record.push(bound);
         record
     }
 

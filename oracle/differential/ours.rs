@@ -14,10 +14,18 @@ struct With<const VALUES: usize> {
     values: [u64; VALUES],
 }
 
+/// PineRecord, by its words.
+#[repr(C)]
+struct Record([u64; 16]);
+
+/// The word of the test bound's exponent, a byte.
+const EXPONENT: usize = 9;
+
 #[link(name = "pine_c", kind = "static")]
 extern "C" {
     fn pine_check_param(param: Param) -> Answer;
     fn pine_derive(param: Param) -> With<29>;
+    fn pine_wr_test_bound(pine: Record) -> u64;
     fn pine_f64_to_field(x: f64, frac_bits: u64) -> With<1>;
     fn pine_field_to_f64(y: u64, frac_bits: u64) -> With<1>;
     fn pine_encode_with_wr_joint_rand(
@@ -93,12 +101,23 @@ fn unshard(param: Param, left: &mut Lent, right: &mut Lent, decoded: &mut Lent) 
     unsafe { pine_unshard(param, first, left.len, second, right.len, decoded.pointer(), decoded.len) }
 }
 
+/// The numbers of PineDerived, then the test bound that its record stands for. What fills up the exponent's word is no
+/// output.
+fn derive(param: Param) -> Given {
+    let mut derived = unsafe { pine_derive(param) };
+    derived.values[EXPONENT] &= 0xff;
+    let record = Record(derived.values[..16].try_into().unwrap());
+    let mut given = Given::from(derived);
+    given.values.push(unsafe { pine_wr_test_bound(record) });
+    given
+}
+
 pub fn call(case: &Case, rows: &mut [Lent]) -> Given {
     let (p, number) = (case.param, case.number);
     unsafe {
         match (case.call, rows) {
             (Call::CheckParam, []) => pine_check_param(p).into(),
-            (Call::Derive, []) => pine_derive(p).into(),
+            (Call::Derive, []) => derive(p),
             (Call::F64ToField, []) => pine_f64_to_field(f64::from_bits(number), p.f).into(),
             (Call::FieldToF64, []) => pine_field_to_f64(number, p.f).into(),
             (Call::Encode, [g, s, m, r]) => pine_encode_with_wr_joint_rand(

@@ -20,7 +20,7 @@ use pine::record::Pine;
 fn put_bounds(out: &mut [u8], at: usize, pine: Pine) -> usize {
     let to = print::hex(out, at, b" sq_norm_bound ", pine.sq_norm_bound, 1);
     let to = print::decimal(out, to, b" sq_norm_bits ", pine.sq_norm_bits);
-    let to = print::hex(out, to, b" wr_test_bound ", pine.wr_test_bound, 1);
+    let to = print::hex(out, to, b" wr_test_bound ", pine.wr_test_bound(), 1);
     print::decimal(out, to, b" wr_test_bits ", pine.wr_test_bits)
 }
 
