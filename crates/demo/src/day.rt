@@ -48,27 +48,19 @@ fn report_in(
     measurement: &mut [u64],
     results: &mut [u64],
     left_share: &mut [u64],
-    left_results: &mut [u64],
     right_share: &mut [u64],
-    right_results: &mut [u64],
     full: &mut [u64],
 ) -> bool
     requires { ⌜ key < 24 ⌝ }
 {
-    let made = report::make(
-        key,
-        measurement,
-        results,
-        left_share,
-        left_results,
-        right_share,
-        right_results,
-        full,
-    );
+    let made = report::make(key, measurement, results, left_share, right_share, full);
     if made.number != 0 {
         return false;
     }
     if !report::is_valid(key, full) {
+        return false;
+    }
+    if !report::has_parts(full, results) {
         return false;
     }
     let filed = file_both(key, left_share, right_share, left, right);
@@ -81,10 +73,8 @@ fn fresh_report(key: usize, left: &mut [u64], right: &mut [u64]) -> bool
 {
     let mut measurement = [0u64; 96];
     let mut results = [0u64; 4];
-    let mut left_share = [0u64; 96];
-    let mut left_results = [0u64; 4];
-    let mut right_share = [0u64; 96];
-    let mut right_results = [0u64; 4];
+    let mut left_share = [0u64; 100];
+    let mut right_share = [0u64; 100];
     let mut full = [0u64; 100];
     report_in(
         key,
@@ -93,9 +83,7 @@ fn fresh_report(key: usize, left: &mut [u64], right: &mut [u64]) -> bool
         &mut measurement,
         &mut results,
         &mut left_share,
-        &mut left_results,
         &mut right_share,
-        &mut right_results,
         &mut full,
     )
 }
@@ -106,34 +94,26 @@ fn same_as_fresh(
     measurement: &[u64],
     results: &[u64],
     left_share: &[u64],
-    left_results: &[u64],
     right_share: &[u64],
-    right_results: &[u64],
     full: &[u64],
 ) -> bool {
     let mut measurement_2 = [0u64; 96];
     let mut results_2 = [0u64; 4];
-    let mut left_share_2 = [0u64; 96];
-    let mut left_results_2 = [0u64; 4];
-    let mut right_share_2 = [0u64; 96];
-    let mut right_results_2 = [0u64; 4];
+    let mut left_share_2 = [0u64; 100];
+    let mut right_share_2 = [0u64; 100];
     let mut full_2 = [0u64; 100];
     report::make(
         key,
         &mut measurement_2,
         &mut results_2,
         &mut left_share_2,
-        &mut left_results_2,
         &mut right_share_2,
-        &mut right_results_2,
         &mut full_2,
     );
     row::same(measurement, &measurement_2)
         & row::same(results, &results_2)
         & row::same(left_share, &left_share_2)
-        & row::same(left_results, &left_results_2)
         & row::same(right_share, &right_share_2)
-        & row::same(right_results, &right_results_2)
         & row::same(full, &full_2)
 }
 
@@ -164,9 +144,7 @@ fn second_report(
     measurement: &mut [u64],
     results: &mut [u64],
     left_share: &mut [u64],
-    left_results: &mut [u64],
     right_share: &mut [u64],
-    right_results: &mut [u64],
     full: &mut [u64],
 ) -> Counts
     requires { ⌜ key < 24 ⌝ }
@@ -178,21 +156,10 @@ fn second_report(
         measurement,
         results,
         left_share,
-        left_results,
         right_share,
-        right_results,
         full,
     );
-    let equal = same_as_fresh(
-        key,
-        measurement,
-        results,
-        left_share,
-        left_results,
-        right_share,
-        right_results,
-        full,
-    );
+    let equal = same_as_fresh(key, measurement, results, left_share, right_share, full);
     Counts {
         filed: more(so_far.filed, filed),
         equal: more(so_far.equal, equal),
@@ -206,9 +173,7 @@ fn second_in(
     measurement: &mut [u64],
     results: &mut [u64],
     left_share: &mut [u64],
-    left_results: &mut [u64],
     right_share: &mut [u64],
-    right_results: &mut [u64],
     full: &mut [u64],
 ) -> Counts {
     let mut counts = Counts { filed: 0, equal: 0 };
@@ -222,9 +187,7 @@ fn second_in(
             measurement,
             results,
             left_share,
-            left_results,
             right_share,
-            right_results,
             full,
         );
         key += 1;
@@ -236,17 +199,13 @@ fn second_in(
 pub fn second(left: &mut [u64], right: &mut [u64]) -> Counts {
     let mut measurement = [0u64; 96];
     let mut results = [0u64; 4];
-    let mut left_share = [0u64; 96];
-    let mut left_results = [0u64; 4];
-    let mut right_share = [0u64; 96];
-    let mut right_results = [0u64; 4];
+    let mut left_share = [0u64; 100];
+    let mut right_share = [0u64; 100];
     let mut full = [0u64; 100];
     row::fill(&mut measurement);
     row::fill(&mut results);
     row::fill(&mut left_share);
-    row::fill(&mut left_results);
     row::fill(&mut right_share);
-    row::fill(&mut right_results);
     row::fill(&mut full);
     begin(left, right);
     second_in(
@@ -255,9 +214,7 @@ pub fn second(left: &mut [u64], right: &mut [u64]) -> Counts {
         &mut measurement,
         &mut results,
         &mut left_share,
-        &mut left_results,
         &mut right_share,
-        &mut right_results,
         &mut full,
     )
 }
@@ -267,11 +224,10 @@ pub fn second(left: &mut [u64], right: &mut [u64]) -> Counts {
 pub fn damaged(left: &mut [u64], key: usize) -> Answer
     requires { ⌜ key < 24 ⌝ }
 {
-    let mut share = [0u64; 96];
+    let mut share = [0u64; 100];
     made_up::elements(made_up::seed(key, made_up::CUT), &mut share);
     share[2] = field64::P;
-    let mut results = [0u64; 4];
-    let tested = report::test(key, &share, &mut results);
+    let tested = report::test(key, &mut share);
     let filed = filing::file(left, key, &share);
     tested.or(filed)
 }

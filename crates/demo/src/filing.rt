@@ -24,7 +24,7 @@ pub fn empty(aggregates: &mut [u64], key: usize) -> Answer
     vdaf::empty_aggregate(param(), &mut aggregates[start..end])
 }
 
-// 5. A server adds the gradient part of a share to the aggregate of its key.
+// 5. A server adds the gradient part of its full share to the aggregate of its key.
 pub fn file(aggregates: &mut [u64], key: usize, share: &[u64]) -> Answer
     requires { ⌜ key < 24 ⌝ }
 {
@@ -33,10 +33,13 @@ pub fn file(aggregates: &mut [u64], key: usize, share: &[u64]) -> Answer
     if aggregates.len() < end {
         return short();
     }
-    if share.len() < DIMENSION {
-        return short();
+    let mut number = 0;
+    let mut place = 0;
+    let gradient = parts::gradient_part(param(), share, &mut number, &mut place);
+    if number != 0 {
+        return Answer { number, place };
     }
-    vdaf::accumulate(param(), &mut aggregates[start..end], &share[0..DIMENSION])
+    vdaf::accumulate(param(), &mut aggregates[start..end], gradient)
 }
 
 // 6. The two servers' aggregates of a key together give the sum of its gradients.

@@ -48,34 +48,25 @@ pub fn encode(key: usize, measurement: &mut [u64], results: &mut [u64]) -> Answe
     encode::encode_with_wr_joint_rand(param(), &gradient, &stream, measurement, results)
 }
 
-// 2. The client cuts the measurement in two: the left share is random, the right one what is left.
+// 2. The client cuts the measurement in two: the left share is random, the right one what is left. Each
+// begins a row with room for a full share.
 pub fn cut(key: usize, measurement: &[u64], left: &mut [u64], right: &mut [u64]) {
     made_up::elements(made_up::seed(key, made_up::CUT), left);
     row::subtract(measurement, left, right);
 }
 
-// 3. A server runs the wraparound tests alone on the gradient part of its share.
-pub fn test(key: usize, share: &[u64], results: &mut [u64]) -> Answer {
-    if share.len() < DIMENSION {
+// 3. A server runs the wraparound tests alone on the first d elements of its share, and puts the results
+// behind it: that is its full share.
+pub fn test(key: usize, share: &mut [u64]) -> Answer {
+    if share.len() < INPUT_LEN {
         return short();
     }
     let mut stream = [0u8; 4];
+    let mut results = [0u64; 4];
     made_up::stream(key, &mut stream);
-    wr_tests::run_wr_tests(param(), &share[0..DIMENSION], &stream, results)
-}
-
-// A server's full share is its share with its results behind it. The two full shares added.
-pub fn join(
-    left: &[u64],
-    left_results: &[u64],
-    right: &[u64],
-    right_results: &[u64],
-    full: &mut [u64],
-) {
-    if ENCODED_LEN <= full.len() {
-        row::add(left, right, &mut full[0..ENCODED_LEN]);
-        row::add(left_results, right_results, &mut full[ENCODED_LEN..]);
-    }
+    let answer = wr_tests::run_wr_tests(param(), &share[0..DIMENSION], &stream, &mut results);
+    row::copy(&results, &mut share[ENCODED_LEN..]);
+    answer
 }
 
 // 4. Both circuits are 0 on the sum of the two full shares. (Servers that must not see that sum show
@@ -87,6 +78,16 @@ pub fn is_valid(key: usize, full: &[u64]) -> bool {
     let equal = validity::valid_sq_norm_equal(param(), 1, full);
     let main_answer = main.answer.or(equal.answer);
     main_answer.number == 0 && main.value == 0 && equal.value == 0
+}
+
+// What the parts of the sum hold: the checked elements are bits, the results those of the client's own
+// tests. A call that hands back a part puts number and place in two lent numbers.
+pub fn has_parts(full: &[u64], results: &[u64]) -> bool {
+    let mut number = 0;
+    let mut place = 0;
+    let checked = parts::checked_part(param(), full, &mut number, &mut place);
+    let added = parts::results_part(param(), full, &mut number, &mut place);
+    number == 0 && row::are_bits(checked) && row::same(added, results)
 }
 
 // What the client does: steps 1 and 2.
@@ -103,31 +104,23 @@ pub fn client(
 }
 
 // What the two servers do, each alone: step 3.
-fn servers(
-    key: usize,
-    left: &[u64],
-    left_results: &mut [u64],
-    right: &[u64],
-    right_results: &mut [u64],
-) -> Answer {
-    let left_tested = test(key, left, left_results);
-    let right_tested = test(key, right, right_results);
+fn servers(key: usize, left: &mut [u64], right: &mut [u64]) -> Answer {
+    let left_tested = test(key, left);
+    let right_tested = test(key, right);
     left_tested.or(right_tested)
 }
 
-// The report of a key.
+// The report of a key, and the sum of its two full shares.
 pub fn make(
     key: usize,
     measurement: &mut [u64],
     results: &mut [u64],
     left: &mut [u64],
-    left_results: &mut [u64],
     right: &mut [u64],
-    right_results: &mut [u64],
     full: &mut [u64],
 ) -> Answer {
     let encoded = client(key, measurement, results, left, right);
-    let tested = servers(key, left, left_results, right, right_results);
-    join(left, left_results, right, right_results, full);
+    let tested = servers(key, left, right);
+    row::add(left, right, full);
     encoded.or(tested)
 }

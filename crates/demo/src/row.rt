@@ -12,6 +12,15 @@ pub fn fill(row: &mut [u64]) {
     }
 }
 
+// As far as both rows go.
+pub fn copy(from: &[u64], to: &mut [u64]) {
+    let mut i = 0;
+    while i < from.len() && i < to.len() {
+        to[i] = from[i];
+        i += 1;
+    }
+}
+
 // all - left modulo p.
 pub fn subtract(all: &[u64], left: &[u64], right: &mut [u64]) {
     let mut i = 0;
@@ -46,6 +55,18 @@ pub fn same(a: &[u64], b: &[u64]) -> bool {
     let mut i = 0;
     while i < a.len() && i < b.len() {
         if a[i] != b[i] {
+            return false;
+        }
+        i += 1;
+    }
+    true
+}
+
+// Whether each element is 0 or 1.
+pub fn are_bits(row: &[u64]) -> bool {
+    let mut i = 0;
+    while i < row.len() {
+        if 1 < row[i] {
             return false;
         }
         i += 1;

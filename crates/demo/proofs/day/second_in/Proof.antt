@@ -8,10 +8,10 @@ use Rattle.demo.proofs.day.second_in.Statement.{statement}
 use Rattle.demo.proofs.day.second_in.Tie as tie
 
 abbrev Inv-loop : tie.InvT-loop
-Inv-loop left₀ right₀ measurement₀ results₀ left-share₀ left-results₀ right-share₀ right-results₀ full₀ counts₀ key₀ left right measurement results left-share left-results right-share right-results full counts key = (length left ≡ length left₀) × (length right ≡ length right₀) × (length measurement ≡ length measurement₀) × (length results ≡ length results₀) × (length left-share ≡ length left-share₀) × (length left-results ≡ length left-results₀) × (length right-share ≡ length right-share₀) × (length right-results ≡ length right-results₀) × (length full ≡ length full₀) × (key ≤ 24)
+Inv-loop left₀ right₀ measurement₀ results₀ left-share₀ right-share₀ full₀ counts₀ key₀ left right measurement results left-share right-share full counts key = (length left ≡ length left₀) × (length right ≡ length right₀) × (length measurement ≡ length measurement₀) × (length results ≡ length results₀) × (length left-share ≡ length left-share₀) × (length right-share ≡ length right-share₀) × (length full ≡ length full₀) × (key ≤ 24)
 
 abbrev μ-loop : tie.MeasureT-loop
-μ-loop left₀ right₀ measurement₀ results₀ left-share₀ left-results₀ right-share₀ right-results₀ full₀ counts₀ key₀ left right measurement results left-share left-results right-share right-results full counts key = 24 - key
+μ-loop left₀ right₀ measurement₀ results₀ left-share₀ right-share₀ full₀ counts₀ key₀ left right measurement results left-share right-share full counts key = 24 - key
 
 loop-holds : tie.Need-loop-holds Inv-loop μ-loop
 loop-holds c = search needs
@@ -49,12 +49,6 @@ same-length-6 c = search needs
 same-length-7 : tie.Need-same-length-7 Inv-loop μ-loop
 same-length-7 c = search needs
 
-same-length-8 : tie.Need-same-length-8 Inv-loop μ-loop
-same-length-8 c = search needs
-
-same-length-9 : tie.Need-same-length-9 Inv-loop μ-loop
-same-length-9 c = search needs
-
 returns : tie.Need-returns Inv-loop μ-loop
 returns c = search needs
 
@@ -76,6 +70,4 @@ second-in-spec =
     same-length-5
     same-length-6
     same-length-7
-    same-length-8
-    same-length-9
     returns)
