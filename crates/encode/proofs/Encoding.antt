@@ -18,10 +18,10 @@ use Rattle.doubles.specs.Doubles.{power}
 use Rattle.pine.specs.declared.PineParam.{PineParam}
 use Rattle.pine.specs.declared.record.Pine.{Pine}
 use Rattle.pine.specs.Param.{Field, Field64, paramAnswer}
-use Rattle.pine.specs.Record.{sqNormBound, sqNormBits, wrTestBound, wrTestBits, bitCheckedLen, encodedInputLen, bytesPerTest, streamLen, pineOf}
+use Rattle.pine.specs.Record.{sqNormBound, sqNormBits, wrTestBound, wrTestBits, bitCheckedLen, encodedInputLen, bytesPerTest, streamLen, pineOf, boundIn}
 use Rattle.rows.specs.Rows.{rowRule}
 use Rattle.pine.proofs.Limits.{limits, param-accepted}
-use Rattle.pine.proofs.Sizes.{bound-64, norm-64, bound-positive}
+use Rattle.pine.proofs.Sizes.{bound-64, norm-64, bound-positive, recovered-64}
 use Rattle.rows.proofs.Lengths.{row-right}
 use Rattle.flp.specs.Tests.{testsOf}
 use Rattle.flp.specs.Encode.{elements, sqNorm, resultsOf, measurementOf, coordinatesRule, gradientLenRule, sqNormRule, inRange, rangeRule, encodeOutcome, encodeRules, encodeAnswer, encodeOf}
@@ -117,7 +117,7 @@ module _ (F : Field) (i : PineParam) (g : List Float) (s m r : List ℕ) where
           (le-of-eq (sym f), (omega arith, omega (arith, ready .gradient-long, ready .small .0)))
 
       -- with the record of the inputs
-      module _ (R : Pine) (is : R ≡ pineOf i) where
+      module _ (R : Pine) (is : R ≡ pineOf i) (b-is : boundIn R ≡ wrTestBound i) where
         abbrev ys : List ℕ
         ys = elements (F .p) (R .«frac_bits») g
 
@@ -127,8 +127,8 @@ module _ (F : Field) (i : PineParam) (g : List Float) (s m r : List ℕ) where
         rest-long = rw is (ready .measurement-long ∙ (λ j. sym (ready .gradient-long) j + (2 * sqNormBits i + (1 + wrTestBits i) * sym (l ∙ ready .results-long) j)))
 
         -- what the code has found
-        module _ (v : ℕ) (rs : List ℕ) (a : Answer) (ev : v ≡ sqNorm (F .p) ys) (er : rs ≡ testsOf (F .p) ((length g + 3) / 4) n s ys)
-            (ea : a ≡ first (sqNormRule v (R .«sq_norm_bound»)) (rangeRule (F .p) (R .«wr_test_bound») 0 rs)) where
+        module _ (v b : ℕ) (rs : List ℕ) (a : Answer) (eb : b ≡ boundIn R) (ev : v ≡ sqNorm (F .p) ys) (er : rs ≡ testsOf (F .p) ((length g + 3) / 4) n s ys)
+            (ea : a ≡ first (sqNormRule v (R .«sq_norm_bound»)) (rangeRule (F .p) b 0 rs)) where
           norm-is : v ≡ sqNorm (F .p) xs
           unfolding pineOf
           norm-is = rw is at ev
@@ -139,7 +139,7 @@ module _ (F : Field) (i : PineParam) (g : List Float) (s m r : List ℕ) where
 
           late-is : a ≡ first (sqNormRule v (sqNormBound i)) (rangeRule (F .p) (wrTestBound i) 0 rs)
           unfolding pineOf
-          late-is = ea ∙ ap (λ (P : Pine). first (sqNormRule v (P .«sq_norm_bound»)) (rangeRule (F .p) (P .«wr_test_bound») 0 rs)) is
+          late-is = ea ∙ (λ j. first (sqNormRule v (is j .«sq_norm_bound»)) (rangeRule (F .p) ((eb ∙ b-is) j) 0 rs))
 
           late : inOrder (drop 6 (encodeRules F i g s m r)) ≡ first (sqNormRule v (sqNormBound i)) (rangeRule (F .p) (wrTestBound i) 0 rs)
           unfolding encodeRules
@@ -153,12 +153,12 @@ module _ (F : Field) (i : PineParam) (g : List Float) (s m r : List ℕ) where
           late-refused h = rw (answer-is, ne-eqb (a .number) 0 h)
 
           module _ (m₁ r₁ : List ℕ) (z : a .number ≡ 0)
-              (em : m₁ ≡ ys ++ checkedOf (F .p) (R .«sq_norm_bits») v (subMod (F .p) (R .«sq_norm_bound») v) (R .«wr_test_bits») (R .«wr_test_bound») (R .«num_wr_successes») rs) (e₁ : r₁ ≡ rs) where
+              (em : m₁ ≡ ys ++ checkedOf (F .p) (R .«sq_norm_bits») v (subMod (F .p) (R .«sq_norm_bound») v) (R .«wr_test_bits») (boundIn R) (R .«num_wr_successes») rs) (e₁ : r₁ ≡ rs) where
             written : m₁ ≡ measurementOf (F .p) i s xs
             unfolding pineOf measurementOf
             written =
                 em
-                ∙ ap (λ (P : Pine). elements (F .p) (P .«frac_bits») g ++ checkedOf (F .p) (P .«sq_norm_bits») v (subMod (F .p) (P .«sq_norm_bound») v) (P .«wr_test_bits») (P .«wr_test_bound») (P .«num_wr_successes») rs) is
+                ∙ (λ j. elements (F .p) (is j .«frac_bits») g ++ checkedOf (F .p) (is j .«sq_norm_bits») v (subMod (F .p) (is j .«sq_norm_bound») v) (is j .«wr_test_bits») (b-is j) (is j .«num_wr_successes») rs)
                 ∙ (λ j. xs ++ checkedOf (F .p) (sqNormBits i) (norm-is j) (subMod (F .p) (sqNormBound i) (norm-is j)) (wrTestBits i) (wrTestBound i) (i .«num_wr_successes») (results-are j))
 
             pub done : encodeOutcome a m₁ r₁ ≡ encodeOf F i g s m r
@@ -176,7 +176,11 @@ module _ (i : PineParam) (R : Pine) (is : R ≡ pineOf i) where
   unfolding pineOf
   scale-is = rw is
 
+  -- b, as the record answers for it
+  pub bound-is : paramAnswer Field64 i ≡ accepted → boundIn R ≡ wrTestBound i
+  bound-is e = ap boundIn is ∙ recovered-64 i e .bound
+
   -- what Field64 has room for
-  pub bounds-fit : paramAnswer Field64 i ≡ accepted → (R .«wr_test_bound» ≤ p64) × ((0 < R .«wr_test_bound») × (R .«sq_norm_bound» < p64))
+  pub bounds-fit : paramAnswer Field64 i ≡ accepted → (boundIn R ≤ p64) × ((0 < boundIn R) × (R .«sq_norm_bound» < p64))
   unfolding pineOf
-  bounds-fit e = rw is (omega (arith, bound-64 i e), (bound-positive i, norm-64 i e))
+  bounds-fit e = rw (bound-is e, is) (omega (arith, bound-64 i e), (bound-positive i, norm-64 i e))

@@ -52,7 +52,7 @@ fn encode_usable(
         v,
         pine.sq_norm_bound,
         found,
-        pine.wr_test_bound,
+        pine.wr_test_bound(),
     );
     if late.number != 0 {
         return late;

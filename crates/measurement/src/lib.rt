@@ -7,6 +7,7 @@ ghost use Prim.Native.Nat.{_+_, _-_, _*_, _≤_, _<_};
 ghost use lib.ListN.{length};
 ghost use Rattle.field64.specs.Field.{p64, subMod};
 ghost use Rattle.doubles.specs.Doubles.{power};
+ghost use Rattle.pine.specs.Record.{boundIn};
 ghost use Rattle.rows.specs.Rows.{Below};
 ghost use Rattle.flp.specs.Bits.{bits};
 ghost use Rattle.flp.specs.Encode.{elements, success, testBits};
@@ -108,9 +109,9 @@ pub fn write_measurement(
     requires { ⌜ Usable (now gradient) ⌝ }
     requires { ⌜ pine .scale ≡ power (pine .«frac_bits») ⌝ }
     requires { ⌜ length (now measurement) ≡ length (now gradient) + (2 * pine .«sq_norm_bits» + (1 + pine .«wr_test_bits») * length (now results)) ⌝ }
-    requires { ⌜ Below p64 (now results) × ((0 < pine .«wr_test_bound») × (pine .«wr_test_bound» ≤ p64)) ⌝ }
+    requires { ⌜ Below p64 (now results) × ((0 < boundIn pine) × (boundIn pine ≤ p64)) ⌝ }
     requires { ⌜ (v < p64) × (pine .«sq_norm_bound» < p64) ⌝ }
-    ensures { λ _. ⌜ now (measurement .exit) ≡ elements p64 (pine .«frac_bits») (now (gradient .entry)) ++ checkedOf p64 (pine .«sq_norm_bits») v (subMod p64 (pine .«sq_norm_bound») v) (pine .«wr_test_bits») (pine .«wr_test_bound») (pine .«num_wr_successes») (now (results .entry)) ⌝ }
+    ensures { λ _. ⌜ now (measurement .exit) ≡ elements p64 (pine .«frac_bits») (now (gradient .entry)) ++ checkedOf p64 (pine .«sq_norm_bits») v (subMod p64 (pine .«sq_norm_bound») v) (pine .«wr_test_bits») (boundIn pine) (pine .«num_wr_successes») (now (results .entry)) ⌝ }
 {
     let d = gradient.len();
     write_elements(gradient, pine.scale, pine.frac_bits, &mut measurement[..d]);
@@ -120,7 +121,7 @@ pub fn write_measurement(
         v,
         u,
         pine.wr_test_bits as usize,
-        pine.wr_test_bound,
+        pine.wr_test_bound(),
         pine.num_wr_successes,
         results,
         &mut measurement[d..],

@@ -1,7 +1,8 @@
 -- What follows for the record of accepted inputs: the derived numbers are what they are called, and none of them can overflow. Assumes nothing.
 use mathlib.Core.Path.{_≡_, refl, sym, ap, _∙_}
+use mathlib.Core.Logic.{_⊎_, inl, inr}
 use Prim.Native.Nat.{ℕ, suc, _+_, _-_, _*_, _/_, _^_, _≤_, _<_}
-use native.Mathlib.Nat.{mul-le-mul, mul-pos, le-refl, le-trans, lt-of-le-of-lt, pow-suc}
+use native.Mathlib.Nat.{mul-le-mul, mul-pos, le-refl, le-trans, lt-of-le-of-lt, eq-zero-or-pos, pow-suc}
 use native.Mathlib.Omega.{arith}
 use lib.Dec.{lit<, lit≤}
 use lib.Pow.{pow-pos, pow-mono}
@@ -10,8 +11,9 @@ use Rattle.rules.specs.Rules.{accepted}
 use Rattle.pine.specs.declared.PineParam.{PineParam}
 use Rattle.pine.specs.declared.record.Pine.{Pine}
 use Rattle.pine.specs.Param.{Field, Field64, paramAnswer}
-use Rattle.pine.specs.Record.{ceilDiv, digits, testBoundOf, sqNormBound, sqNormBits, wrTestBound, wrTestBits, bitCheckedLen, encodedInputLen, inputLen, gadgetCalls, gadgetCallsNorm, pineOf, FromAccepted}
+use Rattle.pine.specs.Record.{ceilDiv, digits, testBoundOf, testExponentOf, sqNormBound, sqNormBits, wrTestBound, wrTestExponent, wrTestBits, bitCheckedLen, encodedInputLen, inputLen, gadgetCalls, gadgetCallsNorm, pineOf, boundIn, FromAccepted, proofLen, lengthsMain}
 use Rattle.pine.proofs.Digits.{digits-above, digits-least, digits-twice, digits-power, ceil-le}
+use Rattle.pine.proofs.Exponent.{digits-below, bound-some, exponent-room}
 use Rattle.pine.proofs.Limits.{Limits, limits}
 
 -- ---- the derived numbers are what they are called
@@ -37,6 +39,15 @@ module _ (i : PineParam) where
   pub bits-power : 2 ^ wrTestBits i ≡ 2 * wrTestBound i
   unfolding wrTestBits wrTestBound
   bits-power = digits-power (digits (ceilDiv (87 * i .«norm_bound») 10))
+
+  -- the record's byte: b is 2 to it, and w one more
+  pub bound-recovered : 2 ^ wrTestExponent i ≡ wrTestBound i
+  unfolding wrTestBound wrTestExponent
+  bound-recovered = refl
+
+  pub bits-recovered : wrTestExponent i + 1 ≡ wrTestBits i
+  unfolding wrTestBits wrTestBound wrTestExponent
+  bits-recovered = sym (digits-below (testExponentOf 87 10 (i .«norm_bound»)))
 
   -- B has q digits
   pub norm-digits : 0 < i .«norm_bound» → (2 ^ sqNormBits i ≤ 2 * sqNormBound i) × (sqNormBound i < 2 ^ sqNormBits i)
@@ -111,12 +122,64 @@ module _ (F : Field) (i : PineParam) (narrow : F .normLimit ≤ 4294967295) (l :
     calls-norm = calls-norm;
   }
 
+-- ---- all that follows from the test bound, from its exponent
+module _ (i : PineParam) where
+  abbrev checkedFrom : (e : ℕ) → ℕ
+  checkedFrom e = 2 * sqNormBits i + (1 + (e + 1)) * i .«num_wr_tests»
+
+  abbrev callsFrom : (e : ℕ) → ℕ
+  callsFrom e = ceilDiv (checkedFrom e) (i .«chunk_len») + ceilDiv (i .«num_wr_tests») (i .«chunk_len»)
+
+  pub record Recovered : Type 0 where
+    pub byte : pineOf i .«wr_test_exponent» < 2 ^ 8
+    pub bound : boundIn (pineOf i) ≡ wrTestBound i
+    pub bits : pineOf i .«wr_test_exponent» + 1 ≡ wrTestBits i
+    pub checked : checkedFrom (pineOf i .«wr_test_exponent») ≡ bitCheckedLen i
+    pub encoded : i .dimension + checkedFrom (pineOf i .«wr_test_exponent») ≡ encodedInputLen i
+    pub input : i .dimension + checkedFrom (pineOf i .«wr_test_exponent») + i .«num_wr_tests» ≡ inputLen i
+    pub calls : callsFrom (pineOf i .«wr_test_exponent») ≡ gadgetCalls i
+    pub proof : proofLen (2 * i .«chunk_len») (callsFrom (pineOf i .«wr_test_exponent»)) ≡ lengthsMain (pineOf i) .«proof_len»
+
+  exponent-positive : 0 < i .«norm_bound» → 0 < wrTestExponent i
+  exponent-positive h = go (eq-zero-or-pos (wrTestExponent i))
+    where
+      go : (wrTestExponent i ≡ 0) ⊎ (0 < wrTestExponent i) → 0 < wrTestExponent i
+      go (inl e) = absurd (omega (arith, bound-above i, bound-recovered i, ap (λ (k : ℕ). 2 ^ k) e))
+      go (inr g) = g
+
+module _ (F : Field) (i : PineParam) (narrow : F .normLimit ≤ 4294967295) (l : Limits F i) where
+  exponent-small : wrTestExponent i ≤ 48
+  unfolding wrTestExponent
+  exponent-small = exponent-room 87 10 (i .«norm_bound») (lit≤ tt) (lit< tt) (le-trans (l .norm .1) narrow)
+
+  bound-in : boundIn (pineOf i) ≡ wrTestBound i
+  unfolding boundIn pineOf
+  bound-in = bound-some (wrTestExponent i) (exponent-positive i (l .norm .0)) (omega (arith, exponent-small)) ∙ bound-recovered i
+
+  pub recovered : Recovered i
+  unfolding pineOf bitCheckedLen encodedInputLen inputLen gadgetCalls lengthsMain
+  recovered =
+      let w = bits-recovered i in
+      record {
+        byte = omega (arith, exponent-small);
+        bound = bound-in;
+        bits = w;
+        checked = rw w refl;
+        encoded = rw w refl;
+        input = rw w refl;
+        calls = rw w refl;
+        proof = rw w refl;
+      }
+
 -- ---- Field64 has room
 pub limits-64 : (i : PineParam) → paramAnswer Field64 i ≡ accepted → Limits Field64 i
 limits-64 i e = limits Field64 i (ap (λ a. a .number) e)
 
 pub sizes-64 : (i : PineParam) → paramAnswer Field64 i ≡ accepted → Sizes i
 sizes-64 i e = sizes Field64 i (lit≤ tt) (limits-64 i e)
+
+pub recovered-64 : (i : PineParam) → paramAnswer Field64 i ≡ accepted → Recovered i
+recovered-64 i e = recovered Field64 i (lit≤ tt) (limits-64 i e)
 
 -- 2b is below p, and so is B
 pub bound-64 : (i : PineParam) → paramAnswer Field64 i ≡ accepted → 2 * wrTestBound i < p64

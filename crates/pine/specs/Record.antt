@@ -5,7 +5,7 @@ use mathlib.Core.Path.{_≡_}
 use lib.Dec.{eqb}
 use lib.Ieee.{Float}
 use Rattle.rules.specs.declared.Answer.{Answer}
-use Rattle.rules.specs.Rules.{accepted}
+use Rattle.rules.specs.Rules.{accepted, outOf}
 use Rattle.doubles.specs.Doubles.{power, plusZero}
 use Rattle.pine.specs.declared.PineParam.{PineParam}
 use Rattle.pine.specs.declared.record.Pine.{Pine}
@@ -37,6 +37,10 @@ powerAbove n = 2 ^ digits n
 abbrev pub testBoundOf : (num den n : ℕ) → ℕ
 testBoundOf num den n = powerAbove (ceilDiv (num * n) den)
 
+-- its exponent
+abbrev pub testExponentOf : (num den n : ℕ) → ℕ
+testExponentOf num den n = digits (ceilDiv (num * n) den)
+
 -- the stream's bytes for one test of d coordinates, two bits each, and for T tests
 abbrev pub bytesPerTest : (d : ℕ) → ℕ
 bytesPerTest d = ceilDiv d 4
@@ -58,6 +62,10 @@ module _ (i : PineParam) where
   -- b: the multiplier is 8.7
   unfoldable pub wrTestBound : ℕ
   wrTestBound = testBoundOf 87 10 (i .«norm_bound»)
+
+  -- b's power of two, which the record holds in its place
+  unfoldable pub wrTestExponent : ℕ
+  wrTestExponent = testExponentOf 87 10 (i .«norm_bound»)
 
   -- w
   unfoldable pub wrTestBits : ℕ
@@ -94,7 +102,7 @@ module _ (i : PineParam) where
     «num_wr_successes» = i .«num_wr_successes»;
     «sq_norm_bound» = sqNormBound;
     «sq_norm_bits» = sqNormBits;
-    «wr_test_bound» = wrTestBound;
+    «wr_test_exponent» = wrTestExponent;
     «wr_test_bits» = wrTestBits;
     «bit_checked_len» = bitCheckedLen;
     «encoded_input_len» = encodedInputLen;
@@ -102,6 +110,10 @@ module _ (i : PineParam) where
     «gadget_calls» = gadgetCalls;
     «gadget_calls_sq_norm_equal» = gadgetCallsNorm;
   }
+
+-- b, as a record answers for it: 0 where it holds none, as beside a refusal, or one of more than 64 bits
+unfoldable pub boundIn : Pine → ℕ
+boundIn r = cond (outOf (r .«wr_test_exponent») 63) 0 (2 ^ r .«wr_test_exponent»)
 
 -- a record that was derived from accepted inputs
 pub record FromAccepted (F : Field) (r : Pine) : Type 0 where
@@ -156,7 +168,7 @@ noPine = record {
   «num_wr_successes» = 0;
   «sq_norm_bound» = 0;
   «sq_norm_bits» = 0;
-  «wr_test_bound» = 0;
+  «wr_test_exponent» = 0;
   «wr_test_bits» = 0;
   «bit_checked_len» = 0;
   «encoded_input_len» = 0;

@@ -5,7 +5,7 @@ ghost use mathlib.Core.Path.{_≡_};
 ghost use Prim.Native.Nat.{_+_, _*_, _^_, _<_, _≤_};
 ghost use Rattle.rules.specs.Rules.{accepted};
 ghost use Rattle.pine.specs.Param.{Field64, paramAnswer};
-ghost use Rattle.pine.specs.Record.{digits, ceilDiv, powerAbove, testBoundOf, proofLen, verifierLen, proveRandLen, streamLen, pineOf, FromAccepted, noPine, noLengths, lengthsMain, lengthsNorm};
+ghost use Rattle.pine.specs.Record.{digits, ceilDiv, powerAbove, testExponentOf, boundIn, proofLen, verifierLen, proveRandLen, streamLen, pineOf, FromAccepted, noPine, noLengths, lengthsMain, lengthsNorm};
 
 // The derived record: the inputs that later calls read, and what follows from them.
 #[repr(C)]
@@ -20,7 +20,8 @@ pub struct Pine {
     pub num_wr_successes: u64,
     pub sq_norm_bound: u64,
     pub sq_norm_bits: u64,
-    pub wr_test_bound: u64,
+    // The wraparound tests' bound is 2 to this power: wr_test_bound().
+    pub wr_test_exponent: u8,
     pub wr_test_bits: u64,
     pub bit_checked_len: u64,
     pub encoded_input_len: u64,
@@ -63,12 +64,12 @@ fn power_above(n: u64) -> u64
     1 << bits(n)
 }
 
-// The smallest power of two not below ceil(8.7 n) + 1.
-fn wr_test_bound(norm_bound: u64) -> u64
+// The exponent of the smallest power of two not below ceil(8.7 n) + 1.
+fn wr_test_exponent(norm_bound: u64) -> u8
     requires { ⌜ «norm_bound» ≤ 3037000499 ⌝ }
-    ensures { λ r. ⌜ r ≡ testBoundOf 87 10 «norm_bound» ⌝ }
+    ensures { λ r. ⌜ r ≡ testExponentOf 87 10 «norm_bound» ⌝ }
 {
-    power_above((87 * norm_bound + 9) / 10)
+    bits((87 * norm_bound + 9) / 10) as u8
 }
 
 // The proof length of a circuit whose one gadget has so many inputs and is called so often.
@@ -86,8 +87,8 @@ impl Pine {
     {
         let sq_norm_bound = param.norm_bound * param.norm_bound;
         let sq_norm_bits = bits(sq_norm_bound);
-        let bound = wr_test_bound(param.norm_bound);
-        let wr_test_bits = bits(2 * bound - 1);
+        let exponent = wr_test_exponent(param.norm_bound);
+        let wr_test_bits = exponent as u64 + 1;
         let bit_checked_len = 2 * sq_norm_bits + (1 + wr_test_bits) * param.num_wr_tests;
         let encoded_input_len = param.dimension + bit_checked_len;
         Pine {
@@ -100,7 +101,7 @@ impl Pine {
             num_wr_successes: param.num_wr_successes,
             sq_norm_bound,
             sq_norm_bits,
-            wr_test_bound: bound,
+            wr_test_exponent: exponent,
             wr_test_bits,
             bit_checked_len,
             encoded_input_len,
@@ -125,7 +126,7 @@ impl Pine {
             num_wr_successes: 0,
             sq_norm_bound: 0,
             sq_norm_bits: 0,
-            wr_test_bound: 0,
+            wr_test_exponent: 0,
             wr_test_bits: 0,
             bit_checked_len: 0,
             encoded_input_len: 0,
@@ -133,6 +134,17 @@ impl Pine {
             gadget_calls: 0,
             gadget_calls_sq_norm_equal: 0,
         }
+    }
+
+    // b, the bound of the wraparound tests; 0 where the record holds none, as beside a refusal. It asks for nothing.
+    pub fn wr_test_bound(self) -> u64
+        ensures { λ r. ⌜ r ≡ boundIn self ⌝ }
+    {
+        let exponent = self.wr_test_exponent as u64;
+        if rules::outside(exponent, 63) {
+            return 0;
+        }
+        1 << exponent
     }
 
     // The bytes of the stream: for each test a pair of bits for each coordinate, in whole bytes.

@@ -71,14 +71,17 @@ neither false t h = (refl, h)
 neither true t h = absurd (true≢false h)
 
 -- a number within a rule's limits
-pub inside : (x m n k : ℕ) → refuse (outOf x m) (suc n) k .number ≡ 0 → (0 < x) × (x ≤ m)
-inside x m n k h =
-    let e = neither (eqb x 0) (ltb m x) (not-so (outOf x m) n k h) in
+pub within : (x m : ℕ) → outOf x m ≡ false → (0 < x) × (x ≤ m)
+within x m h =
+    let e = neither (eqb x 0) (ltb m x) h in
     (some x (eqb-false x 0 (e .0)), ltb-false m x (e .1))
   where
     some : (x : ℕ) → (x ≡ 0 → ⊥) → 0 < x
     some zero h = absurd (h refl)
     some (suc x) h = omega arith
+
+pub inside : (x m n k : ℕ) → refuse (outOf x m) (suc n) k .number ≡ 0 → (0 < x) × (x ≤ m)
+inside x m n k h = within x m (not-so (outOf x m) n k h)
 
 -- ---- the first k rules, and the others
 pub split : (k : ℕ) (rules : List Answer) → inOrder rules ≡ first (inOrder (take k rules)) (inOrder (drop k rules))

@@ -1,11 +1,12 @@
 -- `encode::encode_usable` meets its contract. Assumes nothing.
-use mathlib.Core.Path.{_∙_}
+use borrow.Author.Needs.{needs}
+use mathlib.Core.Path.{ap, _∙_}
 use native.Mathlib.Omega.{arith}
 use Rattle.field64.specs.Field.{p64}
 use lib.ListN.{length}
 use Rattle.pine.specs.Param.{Field64}
 use Rattle.flp.proofs.Tests.{results-below}
-use Rattle.encode.proofs.Encoding.{ready, room, rest-long, late-refused, done, scale-is, bounds-fit}
+use Rattle.encode.proofs.Encoding.{ready, room, rest-long, late-refused, done, scale-is, bound-is, bounds-fit}
 use Rattle.encode.proofs.encode_usable.Statement.{statement}
 use Rattle.encode.proofs.encode_usable.Tie as tie
 
@@ -22,26 +23,33 @@ norm-and-tests-requires c κs =
     let s = c .before .before .before .before .before .before .before in
     (ready Field64 (s .args .param) (s .args .gradient .now) (s .args .stream .now) (s .args .measurement .now) (s .args .results .now) (s .pre .0) .usable, (scale-is (s .args .param) _ (c .before .new .ensures), room Field64 (s .args .param) (s .args .gradient .now) (s .args .stream .now) (s .args .measurement .now) (s .args .results .now) (s .pre .0) (length (s .args .found .now)) (s .pre .1)))
 
+wr-test-bound-requires : tie.Need-wr-test-bound-requires
+wr-test-bound-requires c κs = search needs
+
 check-norm-and-tests-requires : tie.Need-check-norm-and-tests-requires
 check-norm-and-tests-requires c κs =
-    let s = c .before .before .before .before .before .before .before .before .before .before .before in
-    bounds-fit (s .args .param) _ (c .before .before .before .before .before .new .ensures) (ready Field64 (s .args .param) (s .args .gradient .now) (s .args .stream .now) (s .args .measurement .now) (s .args .results .now) (s .pre .0) .inputs) .0
+    let s = c .before .before .before .before .before .before .before .before .before .before .before .before in
+    let f = bounds-fit (s .args .param) _ (c .before .before .before .before .before .before .new .ensures) (ready Field64 (s .args .param) (s .args .gradient .now) (s .args .stream .now) (s .args .measurement .now) (s .args .results .now) (s .pre .0) .inputs) in
+    omega (arith, f .0, c .wr-test-bound .ensures)
 
 same-length : tie.Need-same-length
 same-length c = omega arith
 
 returns : tie.Need-returns
 returns c =
-    let s = c .before .before .before .before .before .before .before .before .before .before .before .before .before .before in
-    late-refused Field64 (s .args .param) (s .args .gradient .now) (s .args .stream .now) (s .args .measurement .now) (s .args .results .now) (s .pre .0) (length (s .args .found .now)) (s .pre .1) _ (c .before .before .before .before .before .before .before .before .new .ensures) (c .before .before .before .before .before .before .norm-and-tests .result) _ _ (c .before .before .before .before .before .before .norm-and-tests .ensures .0 .1) (c .before .before .before .before .before .before .norm-and-tests .ensures .1) (c .before .before .check-norm-and-tests .ensures) (c .if1 .taken)
+    let s = c .before .before .before .before .before .before .before .before .before .before .before .before .before .before .before in
+    let e = c .before .before .before .before .before .before .before .before .before .new .ensures in
+    let t = c .before .before .before .before .before .before .before .norm-and-tests in
+    late-refused Field64 (s .args .param) (s .args .gradient .now) (s .args .stream .now) (s .args .measurement .now) (s .args .results .now) (s .pre .0) (length (s .args .found .now)) (s .pre .1) _ e (bound-is (s .args .param) _ e (ready Field64 (s .args .param) (s .args .gradient .now) (s .args .stream .now) (s .args .measurement .now) (s .args .results .now) (s .pre .0) .inputs)) (t .result) _ _ _ (c .before .before .before .wr-test-bound .ensures) (t .ensures .0 .1) (t .ensures .1) (c .before .before .check-norm-and-tests .ensures) (c .if1 .taken)
 
 write-measurement-requires : tie.Need-write-measurement-requires
 write-measurement-requires c κs =
-    let s = c .before .before .before .before .before .before .before .before .before .before .before .before .before .before .before .before in
-    let t = c .before .before .before .before .before .before .before .before .norm-and-tests in
-    let e = c .before .before .before .before .before .before .before .before .before .before .new .ensures in
-    let b = bounds-fit (s .args .param) _ e (ready Field64 (s .args .param) (s .args .gradient .now) (s .args .stream .now) (s .args .measurement .now) (s .args .results .now) (s .pre .0) .inputs) in
-    (ready Field64 (s .args .param) (s .args .gradient .now) (s .args .stream .now) (s .args .measurement .now) (s .args .results .now) (s .pre .0) .usable, (scale-is (s .args .param) _ e, (rest-long Field64 (s .args .param) (s .args .gradient .now) (s .args .stream .now) (s .args .measurement .now) (s .args .results .now) (s .pre .0) _ (t .kept .1 .1 .1 .1 .1 .0 ∙ s .pre .1) _ e, ((results-below p64 (omega arith) _ _ _ _ _ (t .ensures .1), (b .1 .0, b .0)), (t .ensures .0 .0, b .1 .1)))))
+    let s = c .before .before .before .before .before .before .before .before .before .before .before .before .before .before .before .before .before in
+    let t = c .before .before .before .before .before .before .before .before .before .norm-and-tests in
+    let e = c .before .before .before .before .before .before .before .before .before .before .before .new .ensures in
+    let h = ready Field64 (s .args .param) (s .args .gradient .now) (s .args .stream .now) (s .args .measurement .now) (s .args .results .now) (s .pre .0) in
+    let b = bounds-fit (s .args .param) _ e (h .inputs) in
+    (h .usable, (scale-is (s .args .param) _ e, (rest-long Field64 (s .args .param) (s .args .gradient .now) (s .args .stream .now) (s .args .measurement .now) (s .args .results .now) (s .pre .0) _ (t .kept .1 .1 .1 .1 .1 .0 ∙ s .pre .1) _ e (bound-is (s .args .param) _ e (h .inputs)), ((results-below p64 (omega arith) _ _ _ _ _ (t .ensures .1), (b .1 .0, b .0)), (t .ensures .0 .0, b .1 .1)))))
 
 copy-row-requires : tie.Need-copy-row-requires
 copy-row-requires c κs = omega arith
@@ -57,8 +65,11 @@ same-length-4 c = omega arith
 
 returns-2 : tie.Need-returns-2
 returns-2 c =
-    let s = c .before .before .before .before .before .before .before .before .before .before .before .before .before .before .before .before .before .before .before .before .before .before .before .before in
-    done Field64 (s .args .param) (s .args .gradient .now) (s .args .stream .now) (s .args .measurement .now) (s .args .results .now) (s .pre .0) (length (s .args .found .now)) (s .pre .1) _ (c .before .before .before .before .before .before .before .before .before .before .before .before .before .before .before .before .before .before .new .ensures) (c .before .before .before .before .before .before .before .before .before .before .before .before .before .before .before .before .norm-and-tests .result) _ _ (c .before .before .before .before .before .before .before .before .before .before .before .before .before .before .before .before .norm-and-tests .ensures .0 .1) (c .before .before .before .before .before .before .before .before .before .before .before .before .before .before .before .before .norm-and-tests .ensures .1) (c .before .before .before .before .before .before .before .before .before .before .before .before .check-norm-and-tests .ensures) _ _ (c .before .before .before .before .before .before .before .before .before .before .if1 .left) (c .before .before .before .before .before .before .before .write-measurement .ensures) (c .before .before .copy-row .ensures)
+    let s = c .before .before .before .before .before .before .before .before .before .before .before .before .before .before .before .before .before .before .before .before .before .before .before .before .before in
+    let e = c .before .before .before .before .before .before .before .before .before .before .before .before .before .before .before .before .before .before .before .new .ensures in
+    let t = c .before .before .before .before .before .before .before .before .before .before .before .before .before .before .before .before .before .norm-and-tests in
+    let k = c .before .before .before .before .before .before .before .before .before .before .before .before in
+    done Field64 (s .args .param) (s .args .gradient .now) (s .args .stream .now) (s .args .measurement .now) (s .args .results .now) (s .pre .0) (length (s .args .found .now)) (s .pre .1) _ e (bound-is (s .args .param) _ e (ready Field64 (s .args .param) (s .args .gradient .now) (s .args .stream .now) (s .args .measurement .now) (s .args .results .now) (s .pre .0) .inputs)) (t .result) _ _ _ (k .before .wr-test-bound .ensures) (t .ensures .0 .1) (t .ensures .1) (k .check-norm-and-tests .ensures) _ _ (c .before .before .before .before .before .before .before .before .before .before .if1 .left) (c .before .before .before .before .before .before .before .write-measurement .ensures) (c .before .before .copy-row .ensures)
 
 pub encode-usable-spec : {M : Type 1} → statement M
 encode-usable-spec =
@@ -67,6 +78,7 @@ encode-usable-spec =
     new-requires
     add-per
     norm-and-tests-requires
+    wr-test-bound-requires
     check-norm-and-tests-requires
     same-length
     returns

@@ -4,12 +4,12 @@ use mathlib.Core.Path.{_≡_, refl, ap, _∙_}
 use Prim.Native.Nat.{ℕ, _+_, _-_, _*_, _^_, _≤_, _<_}
 use native.Mathlib.Omega.{arith}
 use Rattle.pine.specs.declared.PineParam.{PineParam}
-use Rattle.pine.specs.Record.{digits, sqNormBound, sqNormBits, wrTestBound, wrTestBits, bitCheckedLen, encodedInputLen, inputLen, gadgetCalls, gadgetCallsNorm, pineOf}
+use Rattle.pine.specs.Record.{sqNormBound, sqNormBits, wrTestExponent, wrTestBits, bitCheckedLen, encodedInputLen, inputLen, gadgetCalls, gadgetCallsNorm, pineOf}
 use Rattle.rules.specs.Rules.{accepted}
 use Rattle.pine.specs.Param.{Field64, paramAnswer}
 use Rattle.pine.proofs.Digits.{ceil-le}
 use Rattle.pine.proofs.Limits.{Limits}
-use Rattle.pine.proofs.Sizes.{bound-positive, limits-64, sizes-64}
+use Rattle.pine.proofs.Sizes.{bits-recovered, limits-64, sizes-64}
 use Rattle.pine.proofs.record.Pine.new.Statement.{statement}
 use Rattle.pine.proofs.record.Pine.new.Tie as tie
 use Rattle.pine.proofs.record.Pine.new.Reads as reads
@@ -28,33 +28,26 @@ known-of i q w a e f =
     rw (e, f) (record { norm-bits = z .norm-bits; bound-bits = z .bound-bits; test-bits = z .test-bits; limits = limits-64 i a })
 
 -- what the locals are, where all of them are known
-module _ (c : tie.After-bits2) where
+module _ (c : tie.After-wr-test-exponent) where
   abbrev start : tie.Start
-  start = c .before .before .before .before
+  start = c .before .before .before
 
   abbrev param : PineParam
   param = start .args .param
 
-  q-is : c .before .before .bits .result ≡ sqNormBits param
+  q-is : c .before .bits .result ≡ sqNormBits param
   unfolding sqNormBits sqNormBound
-  q-is = c .before .before .bits .ensures
+  q-is = c .before .bits .ensures
 
-  b-is : c .before .wr-test-bound .result ≡ wrTestBound param
-  unfolding wrTestBound
-  b-is = c .before .wr-test-bound .ensures
+  e-is : c .wr-test-exponent .result ≡ wrTestExponent param
+  unfolding wrTestExponent
+  e-is = c .wr-test-exponent .ensures
 
-  w-is : c .bits2 .result ≡ wrTestBits param
-  unfolding wrTestBits
-  w-is = c .bits2 .ensures ∙ ap (λ (b : ℕ). digits (2 * b - 1)) b-is
+  w-is : c .wr-test-exponent .result + 1 ≡ wrTestBits param
+  w-is = ap (λ (e : ℕ). e + 1) e-is ∙ bits-recovered param
 
-  known : Known param (c .before .before .bits .result) (c .bits2 .result)
+  known : Known param (c .before .bits .result) (c .wr-test-exponent .result + 1)
   known = known-of param _ _ (start .pre) q-is w-is
-
-bound-known : (c : tie.After-wr-test-bound) → (0 < c .wr-test-bound .result) × (c .wr-test-bound .result ≤ 2 ^ 36)
-unfolding wrTestBound
-bound-known c =
-    let s = c .before .before .before in
-    rw (c .wr-test-bound .ensures) (bound-positive (s .args .param), sizes-64 (s .args .param) (s .pre) .bound)
 
 mul-sq-norm-bound : tie.Need-mul-sq-norm-bound
 mul-sq-norm-bound c = record { fits = unfold sqNormBound in sizes-64 (c .before .args .param) (c .before .pre) .norm }
@@ -62,23 +55,20 @@ mul-sq-norm-bound c = record { fits = unfold sqNormBound in sizes-64 (c .before 
 bits-requires : tie.Need-bits-requires
 bits-requires c κs = search needs
 
-wr-test-bound-requires : tie.Need-wr-test-bound-requires
-wr-test-bound-requires c κs = limits-64 (c .before .before .args .param) (c .before .before .pre) .norm .1
+wr-test-exponent-requires : tie.Need-wr-test-exponent-requires
+wr-test-exponent-requires c κs = limits-64 (c .before .before .args .param) (c .before .before .pre) .norm .1
 
-mul-bits : tie.Need-mul-bits
-mul-bits c = omega (arith, bound-known c)
+cast-wr-test-bits : tie.Need-cast-wr-test-bits
+cast-wr-test-bits c = search needs
 
-sub-bits : tie.Need-sub-bits
-sub-bits c = omega (arith, bound-known c)
-
-bits-requires-2 : tie.Need-bits-requires-2
-bits-requires-2 c κs = search needs
+add-wr-test-bits : tie.Need-add-wr-test-bits
+add-wr-test-bits c = search needs
 
 mul-bit-checked-len : tie.Need-mul-bit-checked-len
 mul-bit-checked-len c = omega (arith, known c)
 
 add-bit-checked-len : tie.Need-add-bit-checked-len
-add-bit-checked-len c = omega (arith, known c)
+add-bit-checked-len c = search needs
 
 mul-bit-checked-len-2 : tie.Need-mul-bit-checked-len-2
 mul-bit-checked-len-2 c = omega (arith, known (c .before))
@@ -110,7 +100,7 @@ add-t12 c =
     let k = known (c .before .before .before .before .before .before) in
     let b = c .before .before .before .before .before .before in
     let i = param b in
-    omega (arith, c .before .chunk-count .ensures, c .chunk-count2 .ensures, ceil-le (2 * b .before .before .bits .result + (1 + b .bits2 .result) * i .«num_wr_tests») (i .«chunk_len») (k .limits .chunk .0), ceil-le (i .«num_wr_tests») (i .«chunk_len») (k .limits .chunk .0))
+    omega (arith, c .before .chunk-count .ensures, c .chunk-count2 .ensures, ceil-le (2 * b .before .bits .result + (1 + (b .wr-test-exponent .result + 1)) * i .«num_wr_tests») (i .«chunk_len») (k .limits .chunk .0), ceil-le (i .«num_wr_tests») (i .«chunk_len») (k .limits .chunk .0))
 
 chunk-count-requires-3 : tie.Need-chunk-count-requires-3
 chunk-count-requires-3 c κs =
@@ -121,7 +111,7 @@ returns : tie.Need-returns
 unfolding pineOf inputLen encodedInputLen bitCheckedLen gadgetCalls gadgetCallsNorm sqNormBound
 returns c =
     let b = c .before .before .before .before .before .before .before in
-    simp (c .chunk-count3 .ensures, c .before .chunk-count2 .ensures, c .before .before .chunk-count .ensures, c .before .before .before .before .scale-of .ensures, q-is b, b-is b, w-is b)
+    simp (c .chunk-count3 .ensures, c .before .chunk-count2 .ensures, c .before .before .chunk-count .ensures, c .before .before .before .before .scale-of .ensures, q-is b, e-is b, bits-recovered (param b))
 
 pub new-spec : {M : Type 1} → statement M
 new-spec =
@@ -129,10 +119,9 @@ new-spec =
     (tie.spec
     mul-sq-norm-bound
     bits-requires
-    wr-test-bound-requires
-    mul-bits
-    sub-bits
-    bits-requires-2
+    wr-test-exponent-requires
+    cast-wr-test-bits
+    add-wr-test-bits
     mul-bit-checked-len
     add-bit-checked-len
     mul-bit-checked-len-2
