@@ -101,7 +101,7 @@ typedef struct PineRecord {
     uint64_t num_wr_successes;
     uint64_t sq_norm_bound;
     uint64_t sq_norm_bits;
-    uint64_t wr_test_bound;
+    uint8_t wr_test_exponent; /* the wraparound tests' bound is 2 to this power: pine_wr_test_bound */
     uint64_t wr_test_bits;
     uint64_t bit_checked_len;   /* of the checked part */
     uint64_t encoded_input_len; /* of a measurement */
@@ -162,6 +162,10 @@ PineAnswer pine_check_param(PineParam param);
 
 /* The record and every length. Rules 1 to 6. */
 PineDerived pine_derive(PineParam param);
+
+/* The bound b of the wraparound tests, from a derived record: a result from -b + 1 to b is in range. 0 for
+ * a record that holds none, as beside a refusal. */
+uint64_t pine_wr_test_bound(PineRecord pine);
 
 /* ---- one number */
 

@@ -15,6 +15,7 @@
 #include "pine.h"
 
 #include <signal.h>
+#include <stddef.h>
 #include <stdio.h>
 #include <stdlib.h>
 #include <string.h>
@@ -38,11 +39,11 @@
 /* ---- what is being done, for the message if it fails */
 
 enum Kind {
-    CHECK_PARAM, DERIVE, F64_TO_FIELD, FIELD_TO_F64, ENCODE, RUN_WR_TESTS, VALID, VALID_EQUAL, GRADIENT_PART,
+    CHECK_PARAM, DERIVE, WR_TEST_BOUND, F64_TO_FIELD, FIELD_TO_F64, ENCODE, RUN_WR_TESTS, VALID, VALID_EQUAL, GRADIENT_PART,
     CHECKED_PART, RESULTS_PART, EMPTY_AGGREGATE, ACCUMULATE, MERGE, UNSHARD, KINDS
 };
 static const char *const names[KINDS] = {
-    "check_param", "derive", "f64_to_field", "field_to_f64", "encode_with_wr_joint_rand", "run_wr_tests", "valid",
+    "check_param", "derive", "wr_test_bound", "f64_to_field", "field_to_f64", "encode_with_wr_joint_rand", "run_wr_tests", "valid",
     "valid_sq_norm_equal", "gradient_part", "checked_part", "results_part", "empty_aggregate", "accumulate", "merge",
     "unshard"
 };
@@ -450,12 +451,27 @@ static void step(void) {
         if (w.answer.number != 0) {
             uint64_t words[sizeof w / 8];
             memcpy(words, &w, sizeof w);
+            /* a byte and what fills up its word */
+            words[offsetof(PineDerived, pine.wr_test_exponent) / 8] = w.pine.wr_test_exponent;
             for (size_t k = 2; k < sizeof w / 8; k++) {
                 if (words[k] != 0) {
                     fail("gives a length beside a refusal");
                 }
             }
         }
+        break;
+    }
+    case WR_TEST_BOUND: {
+        PineRecord r = v.pine;
+        if (once_in(2)) {
+            r.wr_test_exponent = (uint8_t)below(256);
+        }
+        uint64_t wanted = r.wr_test_exponent == 0 || r.wr_test_exponent > 63 ? 0 : (uint64_t)1 << r.wr_test_exponent;
+        if (pine_wr_test_bound(r) != wanted) {
+            fail("is not the power of two");
+        }
+        a.number = a.place = 0;
+        count(a);
         break;
     }
     case F64_TO_FIELD: {

@@ -51,6 +51,7 @@ static size_t measure(void (*call)(void)) {
 static void nothing(void) {}
 static void check_param(void) { taken += pine_check_param(param).number; }
 static void derive(void) { taken += pine_derive(param).answer.number; }
+static void wr_test_bound(void) { taken += pine_wr_test_bound(derived.pine); }
 static void f64_to_field(void) { taken += pine_f64_to_field(-0.3, param.frac_bits).element; }
 static void field_to_f64(void) { taken += pine_field_to_f64(elements[0], param.frac_bits).answer.number; }
 static void encode(void) {
@@ -73,6 +74,7 @@ static const struct {
 } calls[] = {
     {"check_param", check_param},
     {"derive", derive},
+    {"wr_test_bound", wr_test_bound},
     {"f64_to_field", f64_to_field},
     {"field_to_f64", field_to_f64},
     {"encode_with_wr_joint_rand", encode},

@@ -45,6 +45,7 @@ pub struct Part {
 extern "C" {
     pub fn pine_check_param(param: PineParam) -> Answer;
     pub fn pine_derive(param: PineParam) -> Derived;
+    pub fn pine_wr_test_bound(pine: Pine) -> u64;
     pub fn pine_f64_to_field(x: f64, frac_bits: u64) -> Coordinate;
     pub fn pine_field_to_f64(y: u64, frac_bits: u64) -> Decoded;
     pub fn pine_encode_with_wr_joint_rand(

@@ -90,8 +90,8 @@ pub struct Pine {
     pub sq_norm_bound: u64,
     /// The binary digits of sq_norm_bound.
     pub sq_norm_bits: u64,
-    /// The largest test result in range.
-    pub wr_test_bound: u64,
+    /// The largest test result in range is 2 to this power: [`Pine::wr_test_bound`].
+    pub wr_test_exponent: u8,
     /// The binary digits of a test's number.
     pub wr_test_bits: u64,
     /// The length of the checked part.
@@ -104,6 +104,14 @@ pub struct Pine {
     pub gadget_calls: u64,
     /// The gadget calls of [`valid_sq_norm_equal`].
     pub gadget_calls_sq_norm_equal: u64,
+}
+
+impl Pine {
+    /// The largest test result in range; 0 for a record that holds none.
+    pub fn wr_test_bound(self) -> u64 {
+        // SAFETY: numbers by value.
+        unsafe { ffi::pine_wr_test_bound(self) }
+    }
 }
 
 /// The lengths of one circuit's vectors, in elements.

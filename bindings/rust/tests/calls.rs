@@ -73,7 +73,8 @@ fn inputs() {
     refused(derive(param(1, 1, 0, 257, 1)), Rule::NumWrTests, 0);
     let derived = derive(param(1, 4, 0, 2, 2)).unwrap();
     assert_eq!(derived.pine.sq_norm_bits, 1);
-    assert_eq!(derived.pine.wr_test_bound, 16);
+    assert_eq!(derived.pine.wr_test_exponent, 4);
+    assert_eq!(derived.pine.wr_test_bound(), 16);
     assert_eq!(derived.pine.wr_test_bits, 5);
     assert_eq!(derived.pine.encoded_input_len, 18);
     assert_eq!(derived.flp.input_len, 20);
@@ -112,7 +113,7 @@ fn encoding() {
 fn a_norm_that_wraps() {
     let wide = param(65536, 1, 0, 1, 1);
     let derived = derive(wide).unwrap();
-    assert_eq!(derived.pine.wr_test_bound, 1048576);
+    assert_eq!(derived.pine.wr_test_bound(), 1048576);
     let mut measurement = vec![0; derived.pine.encoded_input_len as usize];
     let mut results = [0];
     let gradient = [4294967296.0];
