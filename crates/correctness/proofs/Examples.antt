@@ -132,4 +132,4 @@ report-calls = Call.accumulate 0 inputs (1 ∷ 2 ∷ 3 ∷ p64 ∷ []) ∷ Call.
 decoded-sum : getD (unshardOf Field64 inputs (run Field64 empties report-calls 0 .row) (run Field64 empties report-calls 1 .row) (large ∷ large ∷ large ∷ large ∷ []) .row) 0 plusZero ≡ one
 unfolding run step accumulateOf accumulateAnswer paramAnswer paramRules sumℤ floorOf floorDiv ofBits ofInt div round a-report
 decoded-sum =
-    correctness-64 inputs refl empties empties-begun report-calls (a-report ∷ []) .decoded 0 1 ∣ List·Permᴰ·cons refl (List·Permᴰ·cons refl List·Permᴰ·nil) ∣₁ (large ∷ large ∷ large ∷ large ∷ []) refl .at 0 (omega arith) (lit≤ tt, tt) (lit≤ tt)
+    correctness-64 inputs refl empties empties-begun report-calls (a-report ∷ []) .decoded 0 1 ∣ List·Permᴰ·cons refl (List·Permᴰ·cons refl List·Permᴰ·nil) ∣₁ (large ∷ large ∷ large ∷ large ∷ []) refl .at 0 (omega arith) (lit≤ tt)
