@@ -9,7 +9,7 @@
  * elements, in that order. Derive the lengths by pine_derive.
  *
  * Answers. number 0 and place 0: accepted. Otherwise number is the first rule broken, in the order 1 to
- * 7, 13, 12, 8, 9, 10, 11, and place is where (enum PineRule). A refused call leaves every row as it
+ * 7, 13, 12, 8 with 17, 9, 10, 11, and place is where (enum PineRule). A refused call leaves every row as it
  * was. An accepted call writes every element of its output rows and reads none of what they held before
  * (of an aggregate that is added to or taken from: argument and result).
  *
@@ -69,7 +69,9 @@ enum PineRule {
     PINE_SQ_NORM = 10,         /* the squared norm, a field number, is above norm_bound^2; place 0 */
     PINE_WR_TEST = 11,         /* a wraparound test's result is out of range; place: the test, from 0 */
     PINE_ELEMENT = 12,         /* not below p; place: its index over the rows read, joined in order */
-    PINE_NUM_SHARES = 13       /* 0 or above its limit; place 0 */
+    PINE_NUM_SHARES = 13,      /* 0 or above its limit; place 0 */
+    PINE_FLOOR = 17            /* a coordinate's floor is below -(p - 1) / 2 or above (p - 1) / 2; place: its
+                                * index in the gradient. Of 8 and 17 the lower index is answered */
 };
 
 /* The first rule broken and its place, or 0 and 0. */
@@ -168,7 +170,7 @@ uint64_t pine_wr_test_bound(PineRecord pine);
 
 /* ---- one number */
 
-/* floor(x * 2^frac_bits), clamped to +-(2^64 - 1), modulo p. Rules 4 and 8, place 0. */
+/* floor(x * 2^frac_bits) modulo p. Rules 4, 8 and 17, place 0. */
 PineCoordinate pine_f64_to_field(double x, uint64_t frac_bits);
 
 /* The nearest double to y, or to y - p for y above (p - 1) / 2, divided by 2^frac_bits. Rules 4 and 12,
@@ -179,7 +181,7 @@ PineDecoded pine_field_to_f64(uint64_t y, uint64_t frac_bits);
 
 /* Encodes a gradient of doubles (row 1, length d), with a stream of random bytes (row 2, stream_len),
  * into the measurement (row 3, encoded_input_len; written) and the results of the wraparound tests
- * (row 4, num_wr_tests; written). Rules 1 to 7 (7: rows 2 to 4), 8, 9, 10, 11. */
+ * (row 4, num_wr_tests; written). Rules 1 to 7 (7: rows 2 to 4), 8 and 17, 9, 10, 11. */
 PineAnswer pine_encode_with_wr_joint_rand(PineParam param,
                                           const double *gradient, size_t gradient_len,
                                           const uint8_t *stream, size_t stream_len,

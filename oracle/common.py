@@ -1,7 +1,7 @@
 """What the kinds of case share: document 01's limits, lengths and rules, and ways to draw numbers and rows.
 
-Lengths, and what rules 10 and 11 ask, are worked out here from document 01 and used for refusals only; the lengths also
-for the parts of a full vector, which the original does not hand back.
+Lengths, and what rules 10, 11 and 17 ask, are worked out here from document 01 and used for refusals only; the lengths
+also for the parts of a full vector, which the original does not hand back.
 """
 
 import itertools
@@ -280,6 +280,25 @@ def bits_of(x):
 def usable(bits):
     """Whether a double is a zero or normal."""
     return 0 < bits & EXPONENT < EXPONENT or bits in (0, SIGN)
+
+
+def floor_of(bits, f):
+    """floor(x 2^f) of a double that is usable."""
+    exponent = (bits & EXPONENT) >> 52
+    if exponent == 0:
+        return 0
+    digits = 2**52 + (bits & 2**52 - 1)
+    shift = exponent - 1075 + f
+    if bits & SIGN:
+        digits = -digits
+    return digits << shift if shift >= 0 else digits >> -shift
+
+
+def coordinate_rule(bits, f):
+    """Which of rules 8 and 17 refuses a coordinate, 0 for none."""
+    if not usable(bits):
+        return 8
+    return 0 if -HALF <= floor_of(bits, f) <= HALF else 17
 
 
 # Elements

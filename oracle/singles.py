@@ -4,7 +4,7 @@ import itertools
 import math
 
 from common import (EXPONENT, HALF, INPUTS, LIMITS, P, SIGN, STEPS, TOP, Case, Inputs, Kind, allowed, below, bits_of, broken,
-                    clamp, draw_inputs, first_rule, near, refused, sizes, usable, within)
+                    clamp, coordinate_rule, draw_inputs, first_rule, near, refused, sizes, within)
 
 # params
 
@@ -73,7 +73,7 @@ def sweep_params():
 # coord
 
 def coord(f, bits):
-    rule = 4 if not within("f", f) else 0 if usable(bits) else 8
+    rule = coordinate_rule(bits, f) if within("f", f) else 4
     return Case("coord", f"coord {f} {bits:016x}", refused(rule))
 
 
@@ -88,7 +88,7 @@ def draw_f(rng):
 
 TOO_FINE = (31, 32, 33, 63, 64, 127, 128, 2**31, 2**32, 2**32 + 15, 2**53, 2**63, TOP)
 
-# Numbers that matter after scaling: where the floor, the digits of a double, the field or the clamp turn.
+# Numbers that matter after scaling: where the floor, the digits of a double, the field or the limit of a floor turn.
 MARKS = (0.5, 1, 2, 3, 2**31, 2**32, 2**52, 2**53, 2**62, HALF, 2**63, P, 2**64 - 2048, 2**64, 2**65)
 
 
@@ -120,6 +120,8 @@ def limits_coord():
         for x in MARKS:
             for ulps in (-1, 0, 1):
                 yield coord(f, over(x, f, ulps) | sign)
+    for sign, f, ulps in itertools.product((0, SIGN), range(31), (-1, 0, 1)):
+        yield coord(f, over(HALF, f, ulps) | sign)
     for sign, f in itertools.product((0, SIGN), (0, 30)):
         for bits in (1, 2**51, 2**52 - 1, 2**52, 2**52 + 1, EXPONENT - 1, EXPONENT, EXPONENT + 1, 0xfff << 51,
                      SIGN - 1, 2016 << 52, (2017 << 52) - 1, 2017 << 52):

@@ -26,6 +26,7 @@ static const double gradients[REPORTS][DIMENSION] = {
     {0.0, 0.75, -6.5, 2.5, -10.0},
 };
 
+/* By number; 14 to 16 are no rules of these calls. */
 static const char *const rules[] = {
     "accepted",
     "num_wr_successes is above num_wr_tests",
@@ -41,6 +42,10 @@ static const char *const rules[] = {
     "a wraparound test's result is out of range",
     "an element is not below p",
     "num_shares is out of its limits",
+    "",
+    "",
+    "",
+    "a coordinate's floor is out of the field's limits",
 };
 
 static void must(PineAnswer answer, const char *call) {

@@ -5,12 +5,12 @@ use crate::{
     compare::Same,
 };
 
-const RULES: usize = 14;
+const RULES: [usize; 14] = [1, 2, 3, 4, 5, 6, 7, 8, 9, 10, 11, 12, 13, 17];
 
 #[derive(Clone, Copy, Default)]
 struct Count {
     /// By the answer's number.
-    answers: [u64; RULES],
+    answers: [u64; 18],
     compared: u64,
     unchanged: u64,
 }
@@ -28,7 +28,10 @@ impl Count {
 
     /// The numbers of its row; a rule that refused none is left blank.
     fn cells(&self) -> Vec<String> {
-        let refused = self.answers[1..].iter().map(|many| if *many == 0 { String::new() } else { grouped(*many) });
+        let refused = RULES.map(|rule| match self.answers[rule] {
+            0 => String::new(),
+            many => grouped(many),
+        });
         let mut cells = vec![grouped(self.calls()), grouped(self.answers[0])];
         cells.extend(refused);
         cells.extend([grouped(self.compared), grouped(self.unchanged)]);
@@ -49,9 +52,9 @@ impl Counts {
     pub fn show(&self) {
         let mut all = Count::default();
         self.0.iter().for_each(|count| all.add(count));
-        let rules: Vec<String> = (1..RULES).map(|rule| format!(" {rule} |")).collect();
+        let rules = RULES.map(|rule| format!(" {rule} |"));
         println!("| call | calls | accepted |{} elements compared | elements unchanged |", rules.concat());
-        println!("|---|{}", "---:|".repeat(RULES + 3));
+        println!("|---|{}", "---:|".repeat(RULES.len() + 4));
         for call in CALLS.into_iter().filter(|call| self.0[*call as usize].calls() > 0) {
             println!("| `{}` | {} |", call.name(), self.0[call as usize].cells().join(" | "));
         }

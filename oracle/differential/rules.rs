@@ -83,7 +83,13 @@ fn rules_8_to_11(case: &Case) -> Option<Answer> {
         return None;
     };
     let sizes = Sizes::of(&case.param);
-    rule_at(8, gradient.iter().position(|x| !whole::usable(*x)))
+    let coordinate = |(i, x): (usize, &u64)| {
+        whole::coordinate_rule(*x, case.param.f).map(|number| Answer { number, place: i as u64 })
+    };
+    gradient
+        .iter()
+        .enumerate()
+        .find_map(coordinate)
         .or_else(|| rule(9, gradient.len() as u64 != case.param.d))
         .or_else(|| {
             let numbers = whole::floors(gradient, case.param.f);
@@ -94,7 +100,9 @@ fn rules_8_to_11(case: &Case) -> Option<Answer> {
 
 pub fn answer(case: &Case) -> Answer {
     let refusal = match case.call {
-        Call::F64ToField => rule_4(&case.param).or(rule(8, !whole::usable(case.number))),
+        Call::F64ToField => rule_4(&case.param).or_else(|| {
+            whole::coordinate_rule(case.number, case.param.f).map(|number| Answer { number, place: 0 })
+        }),
         Call::FieldToF64 => rule_4(&case.param).or(rule(12, case.number >= P)),
         _ => rules_1_to_6(&case.param)
             .or_else(|| rule_7(case))

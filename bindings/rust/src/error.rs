@@ -42,6 +42,9 @@ pub enum Rule {
     Element = 12,
     /// num_shares is 0 or above 255.
     NumShares = 13,
+    /// The floor of a coordinate is beyond (p - 1) / 2 either way. The place is its index; of this
+    /// rule and [`Rule::Coordinate`] the lower index is answered.
+    Floor = 17,
 }
 
 impl Rule {
@@ -69,6 +72,7 @@ impl Error {
             11 => Rule::WrTest,
             12 => Rule::Element,
             13 => Rule::NumShares,
+            17 => Rule::Floor,
             // no call of the archive that this crate was written for answers another number
             _ => unreachable!("rule {number}: the archive is of another version"),
         };
@@ -93,6 +97,7 @@ impl fmt::Display for Error {
             Rule::WrTest => write!(f, "the result of wraparound test {place} is out of range"),
             Rule::Element => write!(f, "element {place} of the rows is not below p"),
             Rule::NumShares => write!(f, "num_shares is not from 1 to 255"),
+            Rule::Floor => write!(f, "the floor of coordinate {place} is beyond (p - 1) / 2"),
         }?;
         write!(f, " (rule {})", self.rule.number())
     }

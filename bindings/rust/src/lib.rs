@@ -172,7 +172,7 @@ pub fn derive(param: PineParam) -> Result<Derived, Error> {
     })
 }
 
-/// floor(x · 2^frac_bits), clamped to ±(2^64 - 1), modulo p. Rules 4 and 8, place 0.
+/// floor(x · 2^frac_bits) modulo p. Rules 4, 8 and 17, place 0.
 pub fn f64_to_field(x: f64, frac_bits: u64) -> Result<u64, Error> {
     // SAFETY: numbers by value.
     let coordinate = unsafe { ffi::pine_f64_to_field(x, frac_bits) };
@@ -191,7 +191,7 @@ pub fn field_to_f64(y: u64, frac_bits: u64) -> Result<f64, Error> {
 
 /// Encodes a gradient, with a stream of random bytes (`stream_len`), into a measurement
 /// (`encoded_input_len`) and the results of the wraparound tests (`num_wr_tests`). Rules 1 to 7 (7:
-/// rows 2 to 4), 8, 9, 10, 11.
+/// rows 2 to 4), 8 and 17, 9, 10, 11.
 pub fn encode_with_wr_joint_rand(
     param: PineParam,
     gradient: &[f64],

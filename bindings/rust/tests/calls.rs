@@ -34,7 +34,15 @@ fn coordinates() {
             0,
         );
     }
-    assert_eq!(f64_to_field(1e300, 0), Ok(4294967294));
+    refused(f64_to_field(1e300, 0), Rule::Floor, 0);
+    for f in 0..=30 {
+        let top = 9223372034707292160.0 / (1u64 << f) as f64;
+        assert_eq!(f64_to_field(top, f), Ok((P - 1) / 2));
+        assert_eq!(f64_to_field(-top, f), Ok(P.div_ceil(2)));
+        refused(f64_to_field(top.next_up(), f), Rule::Floor, 0);
+        refused(f64_to_field((-top).next_down(), f), Rule::Floor, 0);
+        refused(f64_to_field(f64::MAX, f), Rule::Floor, 0);
+    }
     refused(f64_to_field(f64::NAN, 31), Rule::FracBits, 0);
 }
 

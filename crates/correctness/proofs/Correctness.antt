@@ -1,5 +1,5 @@
 -- The statement of `specs/Correctness.antt` holds over every field that has room for the accepted inputs, and so over Field64. Assumes nothing.
-use Prim.Native.Nat.{ℕ, zero, suc, _-_, _*_, _/_, _^_, _<_, _≤_, min}
+use Prim.Native.Nat.{ℕ, zero, suc, _-_, _*_, _/_, _^_, _<_, _≤_}
 use mathlib.Core.Path.{_≡_, refl, sym, ap, _∙_}
 use mathlib.Core.Bool.{Bool, true, false, cond}
 use mathlib.Core.List.{List, [], _∷_, map}
@@ -13,7 +13,8 @@ use lib.Pow.{pow-pos}
 use lib.Ieee.{Float, binary64, round, ofInt, neg, div}
 use lib.Ieee.Scale.{round-same}
 use Rattle.rules.specs.Rules.{accepted}
-use Rattle.doubles.specs.Doubles.{clamp, modP, element, power, plusZero, centred, decoded}
+use Rattle.field64.specs.Field.{p64}
+use Rattle.doubles.specs.Doubles.{modP, element, power, plusZero, centred, decoded}
 use Rattle.doubles.proofs.Laws.{round-neg, div-power}
 use Rattle.pine.specs.declared.PineParam.{PineParam}
 use Rattle.pine.specs.Param.{Field, Field64, paramAnswer}
@@ -41,18 +42,6 @@ each-of f (x ∷ xs) = (f x, each-of f xs)
 
 front-row : (p n d : ℕ) (xs : List ℕ) → d ≤ n → FieldRow p n xs → FieldRow p d (take d xs)
 front-row p n d xs h f = record { long = length-take-le d xs (omega (arith, f .long)); below = below-take p d xs (f .below) }
-
--- a floor within the clamp's ends stays as it is
-unclamped : (z : ℤ) → natAbs z ≤ 2 ^ 64 - 1 → clamp z ≡ z
-unfolding clamp
-unclamped (pos n) l = ap pos (low n l)
-  where
-    low : (n : ℕ) → n ≤ 2 ^ 64 - 1 → min n (2 ^ 64 - 1) ≡ n
-    low n h = omega arith
-unclamped (negsuc n) l = ap negsuc (low n l)
-  where
-    low : (n : ℕ) → suc n ≤ 2 ^ 64 - 1 → min n (2 ^ 64 - 2) ≡ n
-    low n h = omega arith
 
 -- ---- a decoded element is the double nearest to its centred number, divided by 2 ^ f
 negative : (n : ℕ) → 0 < n → neg (ofInt binary64 (pos n)) ≡ ofInt binary64 (negℤ (pos n))
@@ -86,9 +75,9 @@ module _ (F : Field) (i : PineParam) where
     long : i .dimension ≤ length (r .measurement)
     long = long-enough F i (r .gradient) (r .stream) (r .found-measurement) (r .found-results) (r .measurement) (r .results) room (r .call)
 
-    stands : (j : ℕ) → j < i .dimension → C.Unclamped F i j r → getD (r .measurement) j 0 ≡ modP (F .p) (C.floorAt F i j r)
+    stands : (j : ℕ) → j < i .dimension → getD (r .measurement) j 0 ≡ modP (F .p) (C.floorAt F i j r)
     unfolding element
-    stands j h u = measurement-at F i (r .gradient) (r .stream) (r .found-measurement) (r .found-results) (r .measurement) (r .results) room (r .call) j h ∙ ap (modP (F .p)) (unclamped (C.floorAt F i j r) u)
+    stands = measurement-at F i (r .gradient) (r .stream) (r .found-measurement) (r .found-results) (r .measurement) (r .results) room (r .call)
 
     plain : List ℕ → List ℕ
     plain side = testsOf (F .p) (bytesPerTest (i .dimension)) (i .«num_wr_tests») (r .stream) (take (i .dimension) side)
@@ -152,10 +141,10 @@ module _ (F : Field) (i : PineParam) where
     cut-sum j [] = refl
     cut-sum j (r ∷ rs) = ap (λ (z : ℤ). C.floorAt F i j r +ℤ z) (cut-sum j rs)
 
-    cut-stands : (j : ℕ) → j < i .dimension → (rs : List (C.Report F i)) → Each (C.Unclamped F i j) rs → Each (StandsFor (F .p) (i .dimension) j) (cuts rs)
+    cut-stands : (j : ℕ) → j < i .dimension → (rs : List (C.Report F i)) → Each (StandsFor (F .p) (i .dimension) j) (cuts rs)
     unfolding cuts cutOf
-    cut-stands j h [] f = tt
-    cut-stands j h (r ∷ rs) f = (getD-take (i .dimension) (r .measurement) j 0 h ∙ stands rooms r j h (f .0), cut-stands j h rs (f .1))
+    cut-stands j h [] = tt
+    cut-stands j h (r ∷ rs) = (getD-take (i .dimension) (r .measurement) j 0 h ∙ stands rooms r j h, cut-stands j h rs)
 
 -- an element of the decoded row, by the centred number that it is read as
 module _ (F : Field) (i : PineParam) (positive : 0 < F .p) (rs : List (C.Report F i)) (rooms : paramAnswer F i .number ≡ 0 → Room (F .p) i) where
@@ -190,13 +179,13 @@ correctness F positive rooms i ok s b calls rs =
           let a : FieldRow (F .p) d (A .row) = g .tallied k .row in
           let b : FieldRow (F .p) d (B .row) = g .tallied m .row in
           let q2 : Joined (A .tally) (B .tally) (shares (cuts F i (rooms i) rs)) = rw (cut-shares F i (rooms i)) q in
-          let at : (j : ℕ) → j < d → Each (C.Unclamped F i j) rs → natAbs (C.floorsSum F i j rs) ≤ (F .p - 1) / 2 → getD (decodedSums (F .p) (i .«frac_bits») (A .row) (B .row)) j plusZero ≡ nearestOver (i .«frac_bits») (C.floorsSum F i j rs) = λ j h u w. decoded-at F i positive rs (rooms i) (A .row) (B .row) a b j h (g .reads k m q2 j h (cut-stands F i (rooms i) j h rs u) (rw cut-sum w)) in
+          let at : (j : ℕ) → j < d → natAbs (C.floorsSum F i j rs) ≤ (F .p - 1) / 2 → getD (decodedSums (F .p) (i .«frac_bits») (A .row) (B .row)) j plusZero ≡ nearestOver (i .«frac_bits») (C.floorsSum F i j rs) = λ j h w. decoded-at F i positive rs (rooms i) (A .row) (B .row) a b j h (g .reads k m q2 j h (cut-stands F i (rooms i) j h rs) (rw cut-sum w)) in
           let u = unshards F i (A .row) (B .row) found (record { param = ok; left-long = a .long; right-long = b .long; left-below = a .below; right-below = b .below }) l in
           rw u (record {
             accepts = refl;
             long = length-decodedSums (F .p) (i .«frac_bits») (A .row) (B .row) (a .long ∙ sym (b .long)) ∙ a .long;
             at = at;
-            zero = λ j h c z. at j h c (rw z (omega arith)) ∙ rw z (nearest-zero (i .«frac_bits»));
+            zero = λ j h z. at j h (rw z (omega arith)) ∙ rw z (nearest-zero (i .«frac_bits»));
           });
     }
 

@@ -213,4 +213,4 @@ joined-report =
 decoded-sum : getD (unshardOf Field64 inputs (run Field64 empties report-calls 0 .row) (run Field64 empties report-calls 1 .row) (large ∷ large ∷ large ∷ large ∷ []) .row) 0 plusZero ≡ one
 unfolding paramAnswer paramRules sumℤ floorOf floorDiv ofBits ofInt div round a-report
 decoded-sum =
-    correctness-64 inputs refl empties empties-begun report-calls (a-report ∷ []) .decoded 0 1 joined-report (large ∷ large ∷ large ∷ large ∷ []) refl .at 0 (omega arith) (lit≤ tt, tt) (lit≤ tt)
+    correctness-64 inputs refl empties empties-begun report-calls (a-report ∷ []) .decoded 0 1 joined-report (large ∷ large ∷ large ∷ large ∷ []) refl .at 0 (omega arith) (lit≤ tt)

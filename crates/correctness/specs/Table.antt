@@ -1,12 +1,12 @@
 -- The worked examples of document 01, "Bench rows", that are marked P, and three rows at places other than 0, over the definitions that the contracts cite. A double is given by its bit pattern. Assumes nothing.
-use Prim.Native.Nat.{ℕ, _+_, _-_, _/_, _^_, _≤_}
+use Prim.Native.Nat.{ℕ, _+_, _-_, _*_, _/_, _^_, _≤_}
 use mathlib.Core.Path.{_≡_}
 use mathlib.Core.List.{[], _∷_}
 use lib.ListN.{take, drop, replicate}
 use lib.Ieee.{Float, binary64, ofBits}
 use Rattle.rules.specs.Rules.{answer, accepted}
 use Rattle.field64.specs.Field.{p64}
-use Rattle.doubles.specs.Doubles.{coordinateOf, decodedOf}
+use Rattle.doubles.specs.Doubles.{floorLimit64, coordinateOf, decodedOf}
 use Rattle.doubles.specs.declared.Coordinate.{Coordinate}
 use Rattle.doubles.specs.declared.Decoded.{Decoded}
 use Rattle.field64.specs.Sums.{number}
@@ -20,10 +20,15 @@ use Rattle.vdaf.specs.Aggregates.{accumulateOf}
 abbrev pub double : (pattern : ℕ) → Float
 double b = ofBits binary64 b
 
--- accepted, with this element; with this double
+-- accepted, with this element
 abbrev pub element : ℕ → Coordinate
 element y = record { answer = accepted; element = y }
 
+-- refused by rule 17
+abbrev pub beyond : Coordinate
+beyond = record { answer = answer 17 0; element = 0 }
+
+-- accepted, with this double
 abbrev pub value : (pattern : ℕ) → Decoded
 value b = record { answer = accepted; value = double b }
 
@@ -43,16 +48,35 @@ large = double 0x41f0_0000_0000_0000
 
 pub record Table : Type 0 where
   -- -0.25, f 0
-  pub minus-quarter : coordinateOf p64 (double 0xbfd0_0000_0000_0000) 0 ≡ element 18446744069414584320
+  pub minus-quarter : coordinateOf p64 floorLimit64 (double 0xbfd0_0000_0000_0000) 0 ≡ element 18446744069414584320
   -- 0.75, f 0 and f 2
-  pub three-quarters : coordinateOf p64 (double 0x3fe8_0000_0000_0000) 0 ≡ element 0
-  pub three-quarters-2 : coordinateOf p64 (double 0x3fe8_0000_0000_0000) 2 ≡ element 3
+  pub three-quarters : coordinateOf p64 floorLimit64 (double 0x3fe8_0000_0000_0000) 0 ≡ element 0
+  pub three-quarters-2 : coordinateOf p64 floorLimit64 (double 0x3fe8_0000_0000_0000) 2 ≡ element 3
   -- -0.3, f 2
-  pub three-tenths : coordinateOf p64 (double 0xbfd3_3333_3333_3333) 2 ≡ element (p64 - 2)
+  pub three-tenths : coordinateOf p64 floorLimit64 (double 0xbfd3_3333_3333_3333) 2 ≡ element (p64 - 2)
   -- -0.0, every f
-  pub minus-zero : (f : ℕ) → f ≤ 30 → coordinateOf p64 (double 0x8000_0000_0000_0000) f ≡ element 0
+  pub minus-zero : (f : ℕ) → f ≤ 30 → coordinateOf p64 floorLimit64 (double 0x8000_0000_0000_0000) f ≡ element 0
   -- 1e300, f 0
-  pub huge : coordinateOf p64 (double 0x7e37_e43c_8800_759c) 0 ≡ element 4294967294
+  pub huge : coordinateOf p64 floorLimit64 (double 0x7e37_e43c_8800_759c) 0 ≡ beyond
+  -- the largest double, whose product with 2 ^ 30 is none, f 30
+  pub largest : coordinateOf p64 floorLimit64 (double 0x7fef_ffff_ffff_ffff) 30 ≡ beyond
+  -- the limit is (p - 1) / 2
+  pub limit : Field64 .floorLimit ≡ 9223372034707292160
+  -- 9223372034707292160.0 and the next double, and their negatives, f 0
+  pub top : coordinateOf p64 floorLimit64 (double 0x43df_ffff_ffe0_0000) 0 ≡ element 9223372034707292160
+  pub top-next : coordinateOf p64 floorLimit64 (double 0x43df_ffff_ffe0_0001) 0 ≡ beyond
+  pub bottom : coordinateOf p64 floorLimit64 (double 0xc3df_ffff_ffe0_0000) 0 ≡ element 9223372034707292161
+  pub bottom-next : coordinateOf p64 floorLimit64 (double 0xc3df_ffff_ffe0_0001) 0 ≡ beyond
+  -- 8589934590.0 and the next double, and their negatives, f 30
+  pub top-30 : coordinateOf p64 floorLimit64 (double 0x41ff_ffff_ffe0_0000) 30 ≡ element 9223372034707292160
+  pub top-next-30 : coordinateOf p64 floorLimit64 (double 0x41ff_ffff_ffe0_0001) 30 ≡ beyond
+  pub bottom-30 : coordinateOf p64 floorLimit64 (double 0xc1ff_ffff_ffe0_0000) 30 ≡ element 9223372034707292161
+  pub bottom-next-30 : coordinateOf p64 floorLimit64 (double 0xc1ff_ffff_ffe0_0001) 30 ≡ beyond
+  -- the same at every f: the exponent is f less
+  pub top-at : (f : ℕ) → f ≤ 30 → coordinateOf p64 floorLimit64 (double (0x43df_ffff_ffe0_0000 - f * 2 ^ 52)) f ≡ element 9223372034707292160
+  pub top-next-at : (f : ℕ) → f ≤ 30 → coordinateOf p64 floorLimit64 (double (0x43df_ffff_ffe0_0001 - f * 2 ^ 52)) f ≡ beyond
+  pub bottom-at : (f : ℕ) → f ≤ 30 → coordinateOf p64 floorLimit64 (double (0xc3df_ffff_ffe0_0000 - f * 2 ^ 52)) f ≡ element 9223372034707292161
+  pub bottom-next-at : (f : ℕ) → f ≤ 30 → coordinateOf p64 floorLimit64 (double (0xc3df_ffff_ffe0_0001 - f * 2 ^ 52)) f ≡ beyond
   -- decode p - 1, f 2: -0.25
   pub last : decodedOf p64 (p64 - 1) 2 ≡ value 0xbfd0_0000_0000_0000
   -- decode (p - 1) / 2 and (p + 1) / 2, f 0: 9223372034707292160.0 and its negative

@@ -1,23 +1,27 @@
--- Which doubles are usable as coordinates, by the tests of `usable`, `size` and `normal_size`, and what their product by the scale is. Assumes nothing.
+-- Which doubles rules 8 and 17 refuse, by the tests of `usable`, `size` and `normal_size` and by the product with the scale, and what the product's floor is. Assumes nothing.
 use mathlib.Core.Path.{_≡_, refl, sym, ap, _∙_, subst}
 use mathlib.Core.Bool.{Bool, true, false, not, _&&_, _||_, Bool·beq, cond, true≢false, false≢true}
-use Prim.Native.Nat.{ℕ, zero, suc, _+_, _*_, _^_, _<_}
+use Prim.Native.Nat.{ℕ, zero, suc, _+_, _*_, _^_, _≤_, _<_}
 use native.Mathlib.Nat.{lt-irrefl, zero-mul, one-mul, mul-pos, zero-lt-suc}
 use native.Mathlib.Omega.{arith}
 use lib.IntN.{ℤ, pos}
 use lib.Dec.{T, ltb, eqb, ltb→lt, lt→ltb, eqb→eq}
-use lib.Ieee.{Float, nan, inf, fin, Format, binary64, prec, emax, low, up, down, odd, units, round, neg, mul, lt, eq, fits, isNan}
+use lib.Ieee.{Float, nan, inf, fin, binary64, up, down, neg, mul, lt, eq, fits}
 use lib.Ieee.Bits.{is-true}
-use lib.Ieee.Fits.{up-pos, and-l, round-is}
+use lib.Ieee.Fits.{up-pos, and-l}
+use borrow.Author.Tests.{eq-eqb, ne-eqb, le-ltb}
+use Rattle.rules.specs.declared.Answer.{Answer}
+use Rattle.rules.specs.Rules.{answer, accepted, refuse, first}
+use Rattle.rules.proofs.Chain.{both, not-so}
 use Rattle.field64.specs.Field.{p64}
-use Rattle.doubles.specs.Doubles.{unusable, element, power}
-use Rattle.doubles.specs.Steps.{sizeOf, normalSize, floorMod}
-use Rattle.doubles.proofs.Laws.{mul-power, floor-of-product}
+use Rattle.doubles.specs.Doubles.{beyond, floorLimit64, unusable, floorOf, coordinateRule, element, coordinate, encoded, coordinateOf, power}
+use Rattle.doubles.specs.Steps.{sizeOf, normalSize, floorMod, within}
+use Rattle.doubles.proofs.Laws.{product-within, product-floor}
 
 abbrev usable : Float → Bool
 usable x = not (unusable x)
 
-and-true : (b : Bool) → b && true ≡ b
+pub and-true : (b : Bool) → b && true ≡ b
 and-true true = refl
 and-true false = refl
 
@@ -117,32 +121,55 @@ usable-other x h = go (eq x (fin false 0 (pos 0))) refl
     go true e = usable-zero x e
     go false e = sym h ∙ by-size x (lt x (fin false 0 (pos 0))) false refl e refl
 
--- ---- the product by the scale is a number, and its floor the element's
-odd-number : (d : ℕ) (s : Bool) (q k l : ℕ) → T (not (isNan (odd d s q k l)))
-unfolding odd isNan
-odd-number d s zero k l = tt
-odd-number d s (suc q) k l = tt
+-- ---- rules 8 and 17, by the product with the scale
+pub usable-within : (x : Float) (f : ℕ) → T (fits binary64 x) → unusable x ≡ false → within (mul binary64 x (power f)) ≡ not (beyond floorLimit64 (floorOf x f))
+unfolding unusable
+usable-within nan f t h = absurd (true≢false h)
+usable-within (inf s) f t h = absurd (true≢false h)
+usable-within (fin s m e) f t h = product-within s m e f t
 
-units-number : (b : Format) (s : Bool) (q k : ℕ) → T (not (isNan (units b s q k)))
-unfolding units isNan
-units-number b s q k = go (ltb (q * 2 ^ k) (2 ^ (low b + suc (emax b))))
+-- a coordinate that neither refuses
+pub record Taken (x : Float) (f : ℕ) : Type 0 where
+  pub usable : unusable x ≡ false
+  pub near : beyond floorLimit64 (floorOf x f) ≡ false
+
+pub taken : (x : Float) (f : ℕ) → coordinateRule floorLimit64 x f .number ≡ 0 → Taken x f
+taken x f h = let g = both _ _ h in record { usable = not-so _ 7 0 (g .0); near = not-so _ 16 0 (g .1) }
+
+-- the product's floor is its element's
+pub product-is-element : (x : Float) (f : ℕ) → T (fits binary64 x) → Taken x f → floorMod (mul binary64 x (power f)) ≡ element p64 x f
+product-is-element nan f t h = absurd (true≢false (unfold unusable in h .usable))
+product-is-element (inf s) f t h = absurd (true≢false (unfold unusable in h .usable))
+product-is-element (fin s m e) f t h = product-floor s m e f t (h .near)
+
+-- ---- the answers
+module _ (l : ℕ) (x : Float) (f : ℕ) where
+  pub answer-8 : unusable x ≡ true → answer 8 0 ≡ coordinateRule l x f
+  answer-8 h = rw h
+
+  pub answer-17 : unusable x ≡ false → beyond l (floorOf x f) ≡ true → answer 17 0 ≡ coordinateRule l x f
+  answer-17 h g = rw (h, g)
+
+  pub answer-none : unusable x ≡ false → beyond l (floorOf x f) ≡ false → accepted ≡ coordinateRule l x f
+  answer-none h g = rw (h, g)
+
+  module _ (p : ℕ) (a : Answer) (e : a ≡ coordinateRule l x f) where
+    pub encoded-refused : (a .number ≡ 0 → ⊥) → record { answer = a; element = 0 } ≡ encoded p l x f
+    unfolding encoded
+    encoded-refused h = ap (λ (t : Bool). record { answer = a; element = cond t (element p x f) 0 }) (sym (ne-eqb (a .number) 0 h)) ∙ ap (λ (b : Answer). coordinate b (element p x f)) e
+
+    pub encoded-accepted : (y : ℕ) → a .number ≡ 0 → y ≡ element p x f → record { answer = a; element = y } ≡ encoded p l x f
+    unfolding encoded
+    encoded-accepted y h g =
+        ap (λ (z : ℕ). record { answer = a; element = z }) g
+        ∙ ap (λ (t : Bool). record { answer = a; element = cond t (element p x f) 0 }) (sym (eq-eqb (a .number) 0 h)) ∙ ap (λ (b : Answer). coordinate b (element p x f)) e
+
+-- rule 4 met, the two calls give the same
+pub small-frac-bits : (p l : ℕ) (x : Float) (f : ℕ) → f ≤ 30 → encoded p l x f ≡ coordinateOf p l x f
+unfolding encoded coordinateOf
+small-frac-bits p l x f h = ap (λ (a : Answer). coordinate a (element p x f)) (sym (first-last (unusable x) (beyond l (floorOf x f)))) ∙ ap (λ (t : Bool). coordinate (first (refuse t 4 0) (first (coordinateRule l x f) accepted)) (element p x f)) (sym (le-ltb 30 f h))
   where
-    go : (t : Bool) → T (not (isNan (cond t (odd (suc (prec b)) s q k (low b)) (inf s))))
-    go true = odd-number (suc (prec b)) s q k (low b)
-    go false = tt
-
-round-number : (b : Format) (s : Bool) (a c : ℕ) → T (not (isNan (round b s a c)))
-round-number b s a c = subst (λ (z : Float). T (not (isNan z))) (sym (round-is b s a c)) (units-number b s _ _)
-
-pub product-is-number : (x : Float) (f : ℕ) → unusable x ≡ false → T (not (isNan (mul binary64 x (power f))))
-unfolding unusable
-product-is-number nan f h = absurd (true≢false h)
-product-is-number (inf s) f h = absurd (true≢false h)
-product-is-number (fin s m e) f h = subst (λ (z : Float). T (not (isNan z))) (sym (mul-power binary64 s m e f)) (round-number binary64 s (m * up e * 2 ^ f) (down e))
-
--- the floor of the product, clamped, modulo p is the element
-pub product-is-element : (x : Float) (f : ℕ) → T (fits binary64 x) → unusable x ≡ false → floorMod (mul binary64 x (power f)) ≡ element p64 x f
-unfolding unusable
-product-is-element nan f t h = absurd (true≢false h)
-product-is-element (inf s) f t h = absurd (true≢false h)
-product-is-element (fin s m e) f t h = floor-of-product s m e f t
+    first-last : (u b : Bool) → first (first (refuse u 8 0) (refuse b 17 0)) accepted ≡ first (refuse u 8 0) (refuse b 17 0)
+    first-last true b = refl
+    first-last false true = refl
+    first-last false false = refl

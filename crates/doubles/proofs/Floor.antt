@@ -1,22 +1,23 @@
--- What the tests of `far_floor` on a double say of its floor. Assumes nothing.
+-- What the tests of `within_limit` and `far_floor` on a double say of its floor. Assumes nothing.
 use mathlib.Core.Path.{_≡_, refl, sym, ap, _∙_, subst}
-use mathlib.Core.Bool.{Bool, true, false, not, true≢false, false≢true}
-use Prim.Native.Nat.{ℕ, zero, suc, _+_, _-_, _*_, _/_, _%_, _^_, _≤_, _<_, min}
-use native.Mathlib.Nat.{le-trans, le-of-eq, le-of-lt, le-antisymm, lt-of-lt-of-le, lt-of-le-of-lt, lt-irrefl, mul-one, zero-mul, zero-div, mul-comm, mul-assoc, mul-right-comm, mul-pos, mul-lt-mul-of-pos-right, lt-of-mul-lt-mul-right, le-div-iff-mul-le, div-lt-iff-lt-mul, div-mul-le-self, div-one, div-le-self, zero-lt-suc, suc-mul}
+use mathlib.Core.Bool.{Bool, true, false, not, _&&_, _||_, true≢false, false≢true}
+use Prim.Native.Nat.{ℕ, zero, suc, _+_, _-_, _*_, _/_, _%_, _^_, _≤_, _<_, suc-le-suc, min}
+use native.Mathlib.Nat.{le-trans, le-of-eq, le-of-lt, le-of-suc-le-suc, le-antisymm, lt-of-lt-of-le, lt-of-le-of-lt, lt-irrefl, mul-one, zero-mul, zero-div, mul-comm, mul-assoc, mul-right-comm, mul-pos, mul-le-mul-left, mul-lt-mul-of-pos-right, lt-of-mul-lt-mul-right, le-div-iff-mul-le, div-lt-iff-lt-mul, div-mul-le-self, div-one, div-le-self, mod-eq-of-lt, zero-lt-suc, suc-mul}
 use native.Mathlib.Omega.{arith}
 use lib.IntN.{ℤ, pos, negsuc, negℤ}
-use lib.Dec.{T, ltb, ltb→lt, lt→ltb, nltb→le, lit≤}
+use lib.Dec.{T, ltb, eqb, ltb→lt, lt→ltb, nltb→le, eqb→eq, eqb-refl, lit≤, lit<}
+use borrow.Author.Tests.{ltb-true, ltb-false, eqb-true, eqb-false, lt-ltb, le-ltb, not-true}
 use lib.Pow.{pow-add, pow-pos}
-use lib.Ieee.{Float, nan, inf, fin, Format, binary64, emax, low, up, down, round, neg, ofInt, lt, fits, isNan, toUnsigned}
+use lib.Ieee.{Float, nan, inf, fin, Format, binary64, emax, low, up, down, round, neg, ofInt, lt, le, fits, isNan, toUnsigned}
 use lib.Ieee.Bits.{is-true}
 use lib.Ieee.Fits.{down-pos}
 use lib.Ieee.Exact.{HasValue, round-exact}
 use lib.Ieee.Back.{round-whole}
 use Rattle.field64.specs.Field.{p64}
-use Rattle.doubles.specs.Doubles.{floorDiv, clamp, modP}
-use Rattle.doubles.specs.Steps.{floorMod}
-use Rattle.doubles.proofs.Laws.{held, floor-clamped}
-use Rattle.doubles.proofs.Accept.{clash}
+use Rattle.doubles.specs.Doubles.{signed, floorDiv, beyond, modP, floorLimit64}
+use Rattle.doubles.specs.Steps.{floorMod, within}
+use Rattle.doubles.proofs.Laws.{held}
+use Rattle.doubles.proofs.Accept.{and-true}
 
 -- ---- tests
 pub yes : {b : Bool} → b ≡ true → T b
@@ -86,34 +87,6 @@ zero-size m e h = go (m * up e) (0 * 1 * down e) (nltb→le 0 (m * up e * 1 + 0 
     go : (a b : ℕ) → a * 1 + b ≤ 0 → a ≡ 0
     go a b h = omega arith
 
-pub floor-above : (w : Float) → T (not (isNan w)) → lt w (fin false 0 (pos 0)) ≡ false → toUnsigned 64 w % p64 ≡ floorMod w
-unfolding isNan toUnsigned floorMod modP clamp floorDiv
-floor-above nan n h = absurd n
-floor-above (inf true) n h = absurd (true≢false (unfold lt in h))
-floor-above (inf false) n h = refl
-floor-above (fin true m e) n h =
-    ap (λ (x : ℕ). min x (2 ^ 64 - 1) % p64) (sym (zero-div (down e))) ∙ ap (λ (x : ℕ). modP p64 (clamp (floorDiv (negℤ (pos x)) (down e)))) (sym (zero-size m e h))
-floor-above (fin false m e) n h = refl
-
-negative-under : (m : ℕ) (e : ℤ) → lt (fin true m e) (fin false 1 (pos 64)) ≡ true
-unfolding lt
-negative-under m e = is-true (ltb 0 (m * up e * 1 + 1 * 2 ^ 64 * down e)) (lt→ltb 0 (m * up e * 1 + 1 * 2 ^ 64 * down e) (go (m * up e * 1) (1 * 2 ^ 64 * down e) (mul-pos (pow-pos 64) (down-pos e))))
-  where
-    go : (a b : ℕ) → 0 < b → 0 < a + b
-    go a b h = omega arith
-
-pub floor-far-above : (w : Float) → T (not (isNan w)) → lt w (fin false 0 (pos 0)) ≡ false → lt w (fin false 1 (pos 64)) ≡ false → (2 ^ 64 - 1) % p64 ≡ floorMod w
-unfolding isNan floorMod modP
-floor-far-above nan n h g = absurd n
-floor-far-above (inf true) n h g = absurd (true≢false (unfold lt in h))
-floor-far-above (inf false) n h g = refl
-floor-far-above (fin true m e) n h g = clash (lt (fin true m e) (fin false 1 (pos 64))) (negative-under m e) g
-floor-far-above (fin false m e) n h g =
-    ap (modP p64) (sym (floor-clamped false (m * up e) (down e) (down-pos e) (far (m * up e) (down e) (unfold lt in nltb→le (m * up e * 1) (1 * 2 ^ 64 * down e) (no g)))))
-  where
-    far : (a d : ℕ) → 2 ^ 64 * d ≤ a * 1 → 2 ^ 64 * d ≤ a
-    far a d h = omega arith
-
 -- ---- a double below zero: it is -∞, or its size is above 0
 below-size : (m : ℕ) (e : ℤ) → lt (fin true m e) (fin false 0 (pos 0)) ≡ true → 0 < m * up e
 unfolding lt
@@ -141,10 +114,10 @@ negated-above-minus-one (fin true m e) h = unfold lt in lt→ltb 0 (1 * 1 * down
 negated-above-minus-one (fin false m e) h = absurd (not-below m e h)
 
 -- the floor of -a / c, by a - 1
-pub floor-negative : (a c : ℕ) → 0 < a → modP p64 (clamp (floorDiv (negℤ (pos a)) c)) ≡ p64 - 1 - min ((a - 1) / c) (2 ^ 64 - 2) % p64
-unfolding floorDiv clamp modP
+pub floor-negative : (a c : ℕ) → 0 < a → modP p64 (floorDiv (negℤ (pos a)) c) ≡ p64 - 1 - (a - 1) / c % p64
+unfolding floorDiv modP
 floor-negative zero c h = absurd (lt-irrefl 0 h)
-floor-negative (suc a) c h = ap (λ (x : ℕ). p64 - 1 - min (x / c) (2 ^ 64 - 2) % p64) (back a)
+floor-negative (suc a) c h = ap (λ (x : ℕ). p64 - 1 - x / c % p64) (back a)
   where
     back : (a : ℕ) → a ≡ suc a - 1
     back a = omega arith
@@ -189,26 +162,138 @@ none-left a c (suc t) A C h e = (
     fewer : (x c a : ℕ) → 0 < c → x + c ≤ a → x ≤ a - 1
     fewer x c a C h = omega arith
 
-pub uncapped : (n k : ℕ) → n ≤ k → min n k ≡ n
-uncapped n k h = omega arith
-
--- the whole part of a double below 2 ^ 64
-cut-is : (m : ℕ) (e : ℤ) → lt (fin false m e) (fin false 1 (pos 64)) ≡ true → (m * up e / down e < 2 ^ 64) × (toUnsigned 64 (fin false m e) ≡ m * up e / down e)
-unfolding lt toUnsigned
-cut-is m e h =
-    let b : m * up e / down e < 2 ^ 64 = div-lt-iff-lt-mul (down-pos e) .1 (plain (m * up e) (down e) (ltb→lt (m * up e * 1) (1 * 2 ^ 64 * down e) (yes h))) in
-    (b, uncapped (m * up e / down e) (2 ^ 64 - 1) (most (m * up e / down e) b))
+negative-under : (m : ℕ) (e : ℤ) → lt (fin true m e) (fin false 1 (pos 64)) ≡ true
+unfolding lt
+negative-under m e = is-true (ltb 0 (m * up e * 1 + 1 * 2 ^ 64 * down e)) (lt→ltb 0 (m * up e * 1 + 1 * 2 ^ 64 * down e) (go (m * up e * 1) (1 * 2 ^ 64 * down e) (mul-pos (pow-pos 64) (down-pos e))))
   where
-    plain : (a d : ℕ) → a * 1 < 2 ^ 64 * d → a < 2 ^ 64 * d
-    plain a d h = omega arith
+    go : (a b : ℕ) → 0 < b → 0 < a + b
+    go a b h = omega arith
 
-    most : (x : ℕ) → x < 2 ^ 64 → x ≤ 2 ^ 64 - 1
-    most x h = omega arith
+-- ---- the limit: a double is beyond it just where its floor is
+whole-part : (s : Bool) (m : ℕ) (e : ℤ) → T (fits binary64 (fin s m e)) → ltb floorLimit64 (m * up e / down e) ≡ ltb (floorLimit64 * down e) (m * up e)
+whole-part s m (pos a) t = ap (ltb floorLimit64) (div-one (m * 2 ^ a))
+whole-part s m (negsuc a) t =
+    let small : m * 1 ≤ floorLimit64 = le-trans (le-of-eq (mul-one m)) (le-trans (le-of-lt (held binary64 s m (negsuc a) t .few)) (lit≤ tt)) in
+    le-ltb floorLimit64 (m * 1 / 2 ^ suc a) (le-trans (div-le-self (m * 1) (2 ^ suc a)) small)
+    ∙ sym (le-ltb (floorLimit64 * 2 ^ suc a) (m * 1) (le-trans small (mul-le-mul-left floorLimit64 (pow-pos (suc a)))))
 
--- a double with something after the point is below 2 ^ 53
-small-of-rest : (s : Bool) (m : ℕ) (e : ℤ) → T (fits binary64 (fin s m e)) → m * up e / down e * down e < m * up e → m * up e / down e ≤ 2 ^ 53
-small-of-rest s m (pos a) t h = absurd (lt-irrefl (m * 2 ^ a) (lt-of-le-of-lt (le-of-eq (sym (mul-one (m * 2 ^ a / 1) ∙ div-one (m * 2 ^ a)))) h))
-small-of-rest s m (negsuc a) t h = le-trans (div-le-self (m * 1) (2 ^ suc a)) (le-trans (le-of-eq (mul-one m)) (le-of-lt (held binary64 s m (negsuc a) t .few)))
+below-part : (l a c : ℕ) → 0 < c → beyond l (floorDiv (negℤ (pos a)) c) ≡ ltb (l * c) a
+unfolding floorDiv
+below-part l zero c C = ap (ltb l) (zero-div c) ∙ le-ltb l 0 (omega arith) ∙ sym (le-ltb (l * c) 0 (omega arith))
+below-part l (suc a) c C =
+    alike (ltb l (suc (a / c))) (ltb (l * c) (suc a))
+    (λ t. lt→ltb (l * c) (suc a) (suc-le-suc (le-div-iff-mul-le C .0 (le-of-suc-le-suc (ltb→lt l (suc (a / c)) t)))))
+    (λ t. lt→ltb l (suc (a / c)) (suc-le-suc (le-div-iff-mul-le C .1 (le-of-suc-le-suc (ltb→lt (l * c) (suc a) t)))))
+
+beyond-is : (s : Bool) (m : ℕ) (e : ℤ) → T (fits binary64 (fin s m e)) → beyond floorLimit64 (floorDiv (signed s (m * up e)) (down e)) ≡ ltb (floorLimit64 * down e) (m * up e)
+beyond-is false m e t = (unfold floorDiv in whole-part false m e t)
+beyond-is true m e t = below-part floorLimit64 (m * up e) (down e) (down-pos e)
+
+not-above : (a b : ℕ) → (ltb a b || (eqb a b && true)) ≡ not (ltb b a)
+not-above a b = go (ltb a b) (eqb a b) refl refl
+  where
+    other : (a b : ℕ) → b ≤ a → (a ≡ b → ⊥) → b < a
+    other a b h g = omega (arith, g)
+
+    go : (t z : Bool) → ltb a b ≡ t → eqb a b ≡ z → (t || (z && true)) ≡ not (ltb b a)
+    go true z h g = ap not (sym (le-ltb b a (le-of-lt (ltb-true a b h))))
+    go false true h g = ap not (sym (le-ltb b a (le-of-eq (eqb-true a b g))))
+    go false false h g = ap not (sym (lt-ltb b a (other a b (ltb-false a b h) (eqb-false a b g))))
+
+not-below-limit : (a b : ℕ) → (ltb b a || (eqb a b && true)) ≡ not (ltb a b)
+not-below-limit a b = ap (λ (t : Bool). ltb b a || (t && true)) (alike (eqb a b) (eqb b a) (λ t. eq→eqb b a (sym (eqb→eq a b t))) (λ t. eq→eqb a b (sym (eqb→eq b a t)))) ∙ not-above b a
+  where
+    eq→eqb : (a b : ℕ) → a ≡ b → T (eqb a b)
+    eq→eqb a b e = subst (λ (x : ℕ). T (eqb a x)) e (eqb-refl a)
+
+positive-true : (a b : ℕ) (z : Bool) → 0 < a + b → (ltb 0 (a + b) || z) ≡ true
+positive-true a b z h = ap (λ (t : Bool). t || z) (lt-ltb 0 (a + b) h)
+
+limit-pos : (e : ℤ) → 0 < 9223372034707292160 * down e
+limit-pos e = mul-pos (lit< tt) (down-pos e)
+
+-- the two ends, as doubles
+abbrev pub above-end : Float → Bool
+above-end w = le (fin true 4294967295 (pos 31)) w
+
+abbrev pub below-end : Float → Bool
+below-end w = le w (fin false 4294967295 (pos 31))
+
+pub within-tests : (w : Float) → T (fits binary64 w) → (above-end w && below-end w) ≡ within w
+unfolding le within
+within-tests nan t = refl
+within-tests (inf true) t = refl
+within-tests (inf false) t = refl
+within-tests (fin false m e) t =
+    ap (λ (b : Bool). b && (ltb (m * up e * 1) (9223372034707292160 * down e) || (eqb (m * up e * 1) (9223372034707292160 * down e) && true)))
+    (positive-true (9223372034707292160 * down e) (m * up e * 1) _ (more (9223372034707292160 * down e) (m * up e * 1) (limit-pos e)))
+    ∙ not-above (m * up e * 1) (9223372034707292160 * down e)
+    ∙ ap (λ (x : ℕ). not (ltb (9223372034707292160 * down e) x)) (mul-one (m * up e))
+    ∙ ap not (sym (beyond-is false m e t))
+  where
+    more : (a b : ℕ) → 0 < a → 0 < a + b
+    more a b h = omega arith
+within-tests (fin true m e) t =
+    ap (λ (b : Bool). (ltb (m * up e * 1) (9223372034707292160 * down e) || (eqb (9223372034707292160 * down e) (m * up e * 1) && true)) && b)
+    (positive-true (m * up e * 1) (9223372034707292160 * down e) _ (more (m * up e * 1) (9223372034707292160 * down e) (limit-pos e)))
+    ∙ and-true _
+    ∙ not-below-limit (9223372034707292160 * down e) (m * up e * 1)
+    ∙ ap (λ (x : ℕ). not (ltb (9223372034707292160 * down e) x)) (mul-one (m * up e))
+    ∙ ap not (sym (beyond-is true m e t))
+  where
+    more : (a b : ℕ) → 0 < b → 0 < a + b
+    more a b h = omega arith
+
+-- what lies within, in size
+within-size : (s : Bool) (m : ℕ) (e : ℤ) → T (fits binary64 (fin s m e)) → within (fin s m e) ≡ true → m * up e ≤ floorLimit64 * down e
+unfolding within
+within-size s m e t h = ltb-false (floorLimit64 * down e) (m * up e) (sym (beyond-is s m e t) ∙ not-true _ h)
+
+-- its whole part
+cut-is : (m : ℕ) (e : ℤ) → m * up e ≤ floorLimit64 * down e → (m * up e / down e ≤ floorLimit64) × (toUnsigned 64 (fin false m e) ≡ m * up e / down e)
+unfolding toUnsigned
+cut-is m e h =
+    let b : m * up e / down e ≤ floorLimit64 = le-of-suc-le-suc (div-lt-iff-lt-mul (down-pos e) .1 (lt-of-le-of-lt h (next floorLimit64 (down e) (down-pos e)))) in
+    (b, uncapped (m * up e / down e) b)
+  where
+    next : (l c : ℕ) → 0 < c → l * c < suc l * c
+    next l c C = mul-lt-mul-of-pos-right (lt-suc l) C
+      where
+        lt-suc : (l : ℕ) → l < suc l
+        lt-suc l = omega arith
+
+    uncapped : (n : ℕ) → n ≤ floorLimit64 → min n (2 ^ 64 - 1) ≡ n
+    uncapped n h = omega arith
+
+under-64 : (m : ℕ) (e : ℤ) → m * up e ≤ floorLimit64 * down e → T (lt (fin false m e) (fin false 1 (pos 64)))
+unfolding lt
+under-64 m e h = lt→ltb (m * up e * 1) (1 * 2 ^ 64 * down e) (go (m * up e) (down e) (down-pos e) h)
+  where
+    go : (a d : ℕ) → 0 < d → a ≤ 9223372034707292160 * d → a * 1 < 2 ^ 64 * d
+    go a d D h = omega arith
+
+-- ---- from zero on
+pub record Above (w : Float) : Type 0 where
+  pub low : T (lt (fin true 1 (pos 0)) w)
+  pub high : T (lt w (fin false 1 (pos 64)))
+  pub is : toUnsigned 64 w ≡ floorMod w
+
+pub floor-above : (w : Float) → T (fits binary64 w) → within w ≡ true → lt w (fin false 0 (pos 0)) ≡ false → Above w
+floor-above nan t k h = absurd (false≢true (unfold within in k))
+floor-above (inf s) t k h = absurd (false≢true (unfold within in k))
+floor-above (fin true m e) t k h = record {
+  low = above-minus-one (fin true m e) (unfold isNan in tt) h;
+  high = subst T (sym (negative-under m e)) tt;
+  is = unfold toUnsigned floorMod modP floorDiv in ap (λ (x : ℕ). x % p64) (sym (zero-div (down e))) ∙ ap (λ (x : ℕ). modP p64 (floorDiv (negℤ (pos x)) (down e))) (sym (zero-size m e h));
+}
+floor-above (fin false m e) t k h =
+    let u = cut-is m e (within-size false m e t k) in
+    let q : m * up e / down e % p64 ≡ floorMod (fin false m e) = unfold floorMod modP floorDiv in refl in
+    record {
+      low = above-minus-one (fin false m e) (unfold isNan in tt) h;
+      high = under-64 m e (within-size false m e t k);
+      is = u .1 ∙ sym (mod-eq-of-lt (lt-of-le-of-lt (u .0) (lit< tt))) ∙ q;
+    }
 
 -- what the last test says
 left-test : (s : Bool) (m : ℕ) (e : ℤ) → T (fits binary64 (fin s m e)) → (t : ℕ) (r : Float) → t ≡ m * up e / down e → r ≡ ofInt binary64 (pos t) → lt r (fin false m e) ≡ ltb (t * down e) (m * up e)
@@ -218,72 +303,60 @@ left-test s m e f t r i j =
     (subst (λ (x : Float). HasValue x false t 1) (sym j)
     (subst (λ (x : ℕ). HasValue (round binary64 false x 1) false x 1) (sym i) (whole-exact binary64 s m e f)))
 
+-- ---- below zero: t is the whole part of -w
+pub record Below (w : Float) : Type 0 where
+  pub low : T (lt (fin true 1 (pos 0)) (neg w))
+  pub high : T (lt (neg w) (fin false 1 (pos 64)))
+
+pub below : (w : Float) → T (fits binary64 w) → within w ≡ true → lt w (fin false 0 (pos 0)) ≡ true → Below w
+below nan t k h = absurd (false≢true (unfold within in k))
+below (inf s) t k h = absurd (false≢true (unfold within in k))
+below (fin false m e) t k h = absurd (not-below m e h)
+below (fin true m e) t k h = record { low = negated-above-minus-one (fin true m e) h; high = unfold neg in under-64 m e (within-size true m e t k) }
+
+-- something of -w is left, or nothing
 pub record Left (w : Float) (t : ℕ) : Type 0 where
-  pub room : t + 1 < 2 ^ 64
-  pub is : p64 - 1 - (t + 1 - 1) % p64 ≡ floorMod w
+  pub room : t + 1 ≤ p64
+  pub is : p64 - (t + 1) ≡ floorMod w
 
 pub record Whole (w : Float) (t : ℕ) : Type 0 where
-  pub some : 1 ≤ t
-  pub is : p64 - 1 - (t - 1) % p64 ≡ floorMod w
+  pub room : t ≤ p64
+  pub is : p64 - t ≡ floorMod w
 
-infinite-not-below : lt (inf false) (fin false 1 (pos 64)) ≡ true → ⊥
-unfolding lt
-infinite-not-below h = false≢true h
-
-pub floor-below-left : (w : Float) (t : ℕ) (r : Float) → T (fits binary64 w) → lt w (fin false 0 (pos 0)) ≡ true → lt (neg w) (fin false 1 (pos 64)) ≡ true
+pub floor-below-left : (w : Float) (t : ℕ) (r : Float) → T (fits binary64 w) → within w ≡ true → lt w (fin false 0 (pos 0)) ≡ true
     → t ≡ toUnsigned 64 (neg w) → r ≡ ofInt binary64 (pos t) → lt r (neg w) ≡ true → Left w t
 unfolding neg floorMod
-floor-below-left nan t r f h g i j k = absurd (false≢true (unfold lt in h))
-floor-below-left (inf true) t r f h g i j k = absurd (infinite-not-below g)
-floor-below-left (inf false) t r f h g i j k = absurd (false≢true (unfold lt in h))
-floor-below-left (fin false m e) t r f h g i j k = absurd (not-below m e h)
-floor-below-left (fin true m e) t r f h g i j k =
+floor-below-left nan t r f n h i j k = absurd (false≢true (unfold within in n))
+floor-below-left (inf s) t r f n h i j k = absurd (false≢true (unfold within in n))
+floor-below-left (fin false m e) t r f n h i j k = absurd (not-below m e h)
+floor-below-left (fin true m e) t r f n h i j k =
     let a = m * up e in
     let c = down e in
-    let u = cut-is m e g in
+    let u = cut-is m e (within-size true m e f n) in
     let i' : t ≡ a / c = i ∙ u .1 in
     let l : t * c < a = ltb→lt (t * c) a (yes (sym (left-test true m e f t r i' j) ∙ k)) in
     let q : (a - 1) / c ≡ t = some-left a c t (down-pos e) i' l in
-    let s : t ≤ 2 ^ 53 = subst (λ (x : ℕ). x ≤ 2 ^ 53) (sym i') (small-of-rest true m e f (subst (λ (x : ℕ). x * c < a) i' l)) in
-    record {
-      room = omega arith;
-      is = ap (λ (x : ℕ). p64 - 1 - x % p64) (same t ∙ sym (uncapped t (2 ^ 64 - 2) (le-trans s (lit≤ tt))) ∙ ap (λ (x : ℕ). min x (2 ^ 64 - 2)) (sym q)) ∙ sym (floor-negative a c (below-size m e h));
-    }
+    let s : t ≤ floorLimit64 = subst (λ (x : ℕ). x ≤ floorLimit64) (sym i') (u .0) in
+    record { room = omega arith; is = ends t s ∙ ap (λ (x : ℕ). p64 - 1 - x % p64) (sym q) ∙ sym (floor-negative a c (below-size m e h)) }
   where
-    same : (t : ℕ) → t + 1 - 1 ≡ t
-    same t = omega arith
+    ends : (t : ℕ) → t ≤ floorLimit64 → p64 - (t + 1) ≡ p64 - 1 - t % p64
+    ends t h = omega arith
 
-pub floor-below-whole : (w : Float) (t : ℕ) (r : Float) → T (fits binary64 w) → lt w (fin false 0 (pos 0)) ≡ true → lt (neg w) (fin false 1 (pos 64)) ≡ true
+pub floor-below-whole : (w : Float) (t : ℕ) (r : Float) → T (fits binary64 w) → within w ≡ true → lt w (fin false 0 (pos 0)) ≡ true
     → t ≡ toUnsigned 64 (neg w) → r ≡ ofInt binary64 (pos t) → lt r (neg w) ≡ false → Whole w t
 unfolding neg floorMod
-floor-below-whole nan t r f h g i j k = absurd (false≢true (unfold lt in h))
-floor-below-whole (inf true) t r f h g i j k = absurd (infinite-not-below g)
-floor-below-whole (inf false) t r f h g i j k = absurd (false≢true (unfold lt in h))
-floor-below-whole (fin false m e) t r f h g i j k = absurd (not-below m e h)
-floor-below-whole (fin true m e) t r f h g i j k =
+floor-below-whole nan t r f n h i j k = absurd (false≢true (unfold within in n))
+floor-below-whole (inf s) t r f n h i j k = absurd (false≢true (unfold within in n))
+floor-below-whole (fin false m e) t r f n h i j k = absurd (not-below m e h)
+floor-below-whole (fin true m e) t r f n h i j k =
     let a = m * up e in
     let c = down e in
-    let u = cut-is m e g in
+    let u = cut-is m e (within-size true m e f n) in
     let i' : t ≡ a / c = i ∙ u .1 in
     let l : a ≤ t * c = nltb→le (t * c) a (no (sym (left-test true m e f t r i' j) ∙ k)) in
     let q = none-left a c t (below-size m e h) (down-pos e) l i' in
-    let b : t < 2 ^ 64 = subst (λ (x : ℕ). x < 2 ^ 64) (sym i') (u .0) in
-    record {
-      some = q .0;
-      is = ap (λ (x : ℕ). p64 - 1 - x % p64) (sym (uncapped (t - 1) (2 ^ 64 - 2) (most t b)) ∙ ap (λ (x : ℕ). min x (2 ^ 64 - 2)) (sym (q .1))) ∙ sym (floor-negative a c (below-size m e h));
-    }
+    let s : t ≤ floorLimit64 = subst (λ (x : ℕ). x ≤ floorLimit64) (sym i') (u .0) in
+    record { room = omega arith; is = ends t (q .0) s ∙ ap (λ (x : ℕ). p64 - 1 - x % p64) (sym (q .1)) ∙ sym (floor-negative a c (below-size m e h)) }
   where
-    most : (t : ℕ) → t < 2 ^ 64 → t - 1 ≤ 2 ^ 64 - 2
-    most t h = omega arith
-
-pub floor-far-below : (w : Float) → lt w (fin false 0 (pos 0)) ≡ true → lt (neg w) (fin false 1 (pos 64)) ≡ false → p64 - 1 - (2 ^ 64 - 1 - 1) % p64 ≡ floorMod w
-unfolding neg floorMod modP
-floor-far-below nan h g = absurd (false≢true (unfold lt in h))
-floor-far-below (inf true) h g = refl
-floor-far-below (inf false) h g = absurd (false≢true (unfold lt in h))
-floor-far-below (fin false m e) h g = absurd (not-below m e h)
-floor-far-below (fin true m e) h g =
-    ap (modP p64) (sym (floor-clamped true (m * up e) (down e) (down-pos e) (far (m * up e) (down e) (unfold lt in nltb→le (m * up e * 1) (1 * 2 ^ 64 * down e) (no g)))))
-  where
-    far : (a d : ℕ) → 2 ^ 64 * d ≤ a * 1 → 2 ^ 64 * d ≤ a
-    far a d h = omega arith
+    ends : (t : ℕ) → 1 ≤ t → t ≤ floorLimit64 → p64 - t ≡ p64 - 1 - (t - 1) % p64
+    ends t h g = omega arith

@@ -1,12 +1,13 @@
 -- The product of a double by 2 ^ k is exact unless it overflows, and the quotient of a decoded size by 2 ^ k is exact. Assumes nothing.
 use mathlib.Core.Path.{_≡_, refl, sym, ap, _∙_, subst}
-use mathlib.Core.Bool.{Bool, true, false, not, _&&_, cond}
-use Prim.Native.Nat.{ℕ, zero, suc, _+_, _-_, _*_, _/_, _%_, _^_, _≤_, _<_, suc-le-suc, min}
+use mathlib.Core.Bool.{Bool, true, false, not, _&&_, cond, true≢false}
+use Prim.Native.Nat.{ℕ, zero, suc, _+_, _-_, _*_, _/_, _%_, _^_, _≤_, _<_, suc-le-suc}
 use native.Mathlib.Nat.{le-trans, le-of-eq, le-of-lt, le-antisymm, le-of-suc-le-suc, lt-of-lt-of-le, lt-of-le-of-lt, lt-of-not-le, not-le-of-lt, lt-irrefl, zero-lt-suc, zero-mul, zero-div, mul-one, one-mul, mul-comm, mul-assoc, mul-right-comm, mul-pos, mul-le-mul-right, mul-le-mul-left, mul-le-mul, mul-lt-mul-of-pos-right, lt-of-mul-lt-mul-right, le-div-iff-mul-le, div-mul-le-self, sub-add-cancel}
 use native.Mathlib.Decide.{decLe}
 use native.Mathlib.Omega.{arith}
 use lib.IntN.{ℤ, pos, negsuc}
 use lib.Dec.{T, ltb, leb, eqb, ltb→lt, lt→ltb, leb→le, eqb→eq, lit<, lit≤}
+use borrow.Author.Tests.{lt-ltb}
 use lib.Pow.{pow-add, pow-pos, pow-lt, pow-mono}
 use lib.Ieee.{Float, nan, inf, fin, Format, binary64, prec, emax, low, up, down, unlike, odd, units, round, neg, mul, div, ofInt, le, fits}
 use lib.Ieee.Fits.{round-is, ofInt-fits, neg-fits, up-pos, down-pos, and-l, and-r}
@@ -16,8 +17,8 @@ use lib.Ieee.Order.{round-mono}
 use lib.Ieee.Nearest.{div-same}
 use lib.Ieee.Positive.{num, den, positive, between, le→cross}
 use Rattle.field64.specs.Field.{p64}
-use Rattle.doubles.specs.Doubles.{signed, floorDiv, clamp, modP, floorOf, element, power, centred, decoded}
-use Rattle.doubles.specs.Steps.{floorMod}
+use Rattle.doubles.specs.Doubles.{signed, floorDiv, beyond, modP, floorLimit64, floorOf, element, power, centred, decoded}
+use Rattle.doubles.specs.Steps.{floorMod, within}
 
 -- ---- a double that a format holds: few digits, no smaller than the format's smallest value, below its overflow
 pub record Held (b : Format) (m : ℕ) (e : ℤ) : Type 0 where
@@ -246,49 +247,47 @@ floor-same true zero c (suc b) d C D e = absurd (no-zero b c d C e)
 floor-same true (suc a) c zero d C D e = absurd (no-zero a d c D (sym e))
 floor-same true (suc a) c (suc b) d C D e = ap negsuc (le-antisymm (below-same a b c d C D e) (below-same b a d c D C (sym e)))
 
-floor-of-value : (z : Float) (s : Bool) (a c : ℕ) → 0 < c → HasValue z s a c → floorMod z ≡ modP p64 (clamp (floorDiv (signed s a) c))
-unfolding floorMod
+floor-of-value : (z : Float) (s : Bool) (a c : ℕ) → 0 < c → HasValue z s a c → (floorMod z ≡ modP p64 (floorDiv (signed s a) c)) × (within z ≡ not (beyond floorLimit64 (floorDiv (signed s a) c)))
+unfolding floorMod within
 floor-of-value nan s a c C h = absurd h
 floor-of-value (inf t) s a c C h = absurd h
 floor-of-value (fin t m e) s a c C h =
-    ap (λ (v : Bool). modP p64 (clamp (floorDiv (signed v (m * up e)) (down e)))) (h .0)
-    ∙ ap (λ (v : ℤ). modP p64 (clamp v)) (floor-same s (m * up e) (down e) a c (down-pos e) C (h .1))
+    let same : floorDiv (signed t (m * up e)) (down e) ≡ floorDiv (signed s a) c =
+    ap (λ (v : Bool). floorDiv (signed v (m * up e)) (down e)) (h .0) ∙ floor-same s (m * up e) (down e) a c (down-pos e) C (h .1) in
+    (ap (modP p64) same, ap (λ (z : ℤ). not (beyond floorLimit64 z)) same)
 
--- ---- from 2 ^ 64 - 1 on the clamp applies
-capped : (n k : ℕ) → k ≤ n → min n k ≡ k
-capped n k h = omega arith
-
-most : (a c : ℕ) → 0 < c → 2 ^ 64 * c ≤ a → 2 ^ 64 ≤ a / c
-most a c C h = le-div-iff-mul-le C .1 h
-
-most-below : (a c : ℕ) → 0 < c → 2 ^ 64 * c ≤ suc a → 2 ^ 64 - 2 ≤ a / c
-most-below a c C h = le-div-iff-mul-le C .1 (less c a C h)
+-- ---- a size of 2 ^ 64 or more has its floor beyond the limit
+far-floor : (s : Bool) (a c : ℕ) → 0 < c → 2 ^ 64 * c ≤ a → beyond floorLimit64 (floorDiv (signed s a) c) ≡ true
+unfolding floorDiv
+far-floor false a c C h = lt-ltb floorLimit64 (a / c) (lt-of-lt-of-le (lit< tt) (le-div-iff-mul-le C .1 h))
+far-floor true zero c C h = absurd (not-le-of-lt (mul-pos (pow-pos 64) C) h)
+far-floor true (suc a) c C h = lt-ltb floorLimit64 (suc (a / c)) (suc-le-suc (le-trans (lit≤ tt) (le-div-iff-mul-le C .1 (less c a C h))))
   where
-    less : (c a : ℕ) → 0 < c → 2 ^ 64 * c ≤ suc a → (2 ^ 64 - 2) * c ≤ a
+    less : (c a : ℕ) → 0 < c → 2 ^ 64 * c ≤ suc a → (2 ^ 64 - 1) * c ≤ a
     less c a C h = omega arith
 
-pub floor-clamped : (s : Bool) (a c : ℕ) → 0 < c → 2 ^ 64 * c ≤ a → clamp (floorDiv (signed s a) c) ≡ signed s (2 ^ 64 - 1)
-unfolding floorDiv clamp
-floor-clamped false a c C h = ap pos (capped (a / c) (2 ^ 64 - 1) (le-trans (lit≤ tt) (most a c C h)))
-floor-clamped true zero c C h = absurd (not-le-of-lt (mul-pos (pow-pos 64) C) h)
-floor-clamped true (suc a) c C h = ap negsuc (capped (a / c) (2 ^ 64 - 2) (most-below a c C h))
+within-inf : (s : Bool) → within (inf s) ≡ false
+unfolding within
+within-inf s = refl
 
-floor-of-inf : (s : Bool) → floorMod (inf s) ≡ modP p64 (signed s (2 ^ 64 - 1))
-unfolding floorMod
-floor-of-inf s = refl
-
--- AND THEN THE CLAMP APPLIES: the floor of x * 2 ^ k lies beyond it too
-pub overflow-clamped : (s : Bool) (m : ℕ) (e : ℤ) (k : ℕ) → 2 ^ 1024 * down e ≤ m * up e * 2 ^ k → clamp (floorDiv (signed s (m * up e * 2 ^ k)) (down e)) ≡ signed s (2 ^ 64 - 1)
-overflow-clamped s m e k h = floor-clamped s (m * up e * 2 ^ k) (down e) (down-pos e) (le-trans (mul-le-mul-right (down e) (lit≤ tt)) h)
-
--- ---- so the floor of the product is that of x * 2 ^ k, whether it overflows or not
-pub floor-of-product : (s : Bool) (m : ℕ) (e : ℤ) (k : ℕ) → T (fits binary64 (fin s m e)) → floorMod (mul binary64 (fin s m e) (power k)) ≡ element p64 (fin s m e) k
-unfolding element floorOf
-floor-of-product s m e k t = go (decLe (2 ^ 1024 * down e) (m * up e * 2 ^ k))
+-- ---- so the floor of the product is that of x * 2 ^ k: where the product overflows, both are beyond the limit
+pub product-within : (s : Bool) (m : ℕ) (e : ℤ) (k : ℕ) → T (fits binary64 (fin s m e)) → within (mul binary64 (fin s m e) (power k)) ≡ not (beyond floorLimit64 (floorOf (fin s m e) k))
+unfolding floorOf
+product-within s m e k t = go (decLe (2 ^ 1024 * down e) (m * up e * 2 ^ k))
   where
-    go : Dec (2 ^ 1024 * down e ≤ m * up e * 2 ^ k) → floorMod (mul binary64 (fin s m e) (power k)) ≡ modP p64 (clamp (floorDiv (signed s (m * up e * 2 ^ k)) (down e)))
-    go (yes h) = ap floorMod (product-overflows s m e k h) ∙ floor-of-inf s ∙ ap (modP p64) (sym (overflow-clamped s m e k h))
-    go (no h) = floor-of-value (mul binary64 (fin s m e) (power k)) s (m * up e * 2 ^ k) (down e) (down-pos e) (product-exact binary64 s m e k t (lt-of-not-le h))
+    go : Dec (2 ^ 1024 * down e ≤ m * up e * 2 ^ k) → within (mul binary64 (fin s m e) (power k)) ≡ not (beyond floorLimit64 (floorDiv (signed s (m * up e * 2 ^ k)) (down e)))
+    go (yes h) =
+        ap within (product-overflows s m e k h) ∙ within-inf s
+        ∙ ap not (sym (far-floor s (m * up e * 2 ^ k) (down e) (down-pos e) (le-trans (mul-le-mul-right (down e) (lit≤ tt)) h)))
+    go (no h) = floor-of-value (mul binary64 (fin s m e) (power k)) s (m * up e * 2 ^ k) (down e) (down-pos e) (product-exact binary64 s m e k t (lt-of-not-le h)) .1
+
+pub product-floor : (s : Bool) (m : ℕ) (e : ℤ) (k : ℕ) → T (fits binary64 (fin s m e)) → beyond floorLimit64 (floorOf (fin s m e) k) ≡ false → floorMod (mul binary64 (fin s m e) (power k)) ≡ element p64 (fin s m e) k
+unfolding element floorOf
+product-floor s m e k t b = go (decLe (2 ^ 1024 * down e) (m * up e * 2 ^ k))
+  where
+    go : Dec (2 ^ 1024 * down e ≤ m * up e * 2 ^ k) → floorMod (mul binary64 (fin s m e) (power k)) ≡ modP p64 (floorDiv (signed s (m * up e * 2 ^ k)) (down e))
+    go (yes h) = absurd (true≢false (sym (far-floor s (m * up e * 2 ^ k) (down e) (down-pos e) (le-trans (mul-le-mul-right (down e) (lit≤ tt)) h)) ∙ b))
+    go (no h) = floor-of-value (mul binary64 (fin s m e) (power k)) s (m * up e * 2 ^ k) (down e) (down-pos e) (product-exact binary64 s m e k t (lt-of-not-le h)) .0
 
 -- ---- 2 ^ f, for a small f, as a double
 power-fits : (f : ℕ) → f ≤ 30 → T (fits binary64 (power f))

@@ -2,7 +2,7 @@
 -- y - M is exact, and w < y - M says which. And y's bit pattern counts on with y. Assumes nothing.
 use mathlib.Core.Path.{_≡_, refl, sym, ap, _∙_, subst}
 use mathlib.Core.Bool.{Bool, true, false, not, cond, false≢true, true≢false}
-use Prim.Native.Nat.{ℕ, zero, suc, _+_, _-_, _*_, _/_, _%_, _^_, _≤_, _<_, min, compare, Ordering}
+use Prim.Native.Nat.{ℕ, zero, suc, _+_, _-_, _*_, _/_, _%_, _^_, _≤_, _<_, compare, Ordering}
 use native.Mathlib.Nat.{le-trans, le-of-eq, le-antisymm, lt-of-lt-of-le, lt-of-le-of-lt, lt-of-not-le, not-le-of-lt, mul-one, zero-mul, one-mul, zero-add, sub-zero, zero-div, add-mod-right, mul-comm, mul-right-comm, mul-pos, add-mul, mul-le-mul-right, mul-lt-mul-of-pos-right, le-of-mul-le-mul-right, lt-of-mul-lt-mul-right, le-div-iff-mul-le, div-lt-iff-lt-mul, div-mul-le-self, div-eq-of-lt-le, lt-div-mul-add, mul-div-cancel, mul-div-mul-right, add-mul-div-right, eq-of-mul-eq-mul-right, mod-eq-of-lt, zero-lt-suc}
 use native.Mathlib.Omega.{arith}
 use lib.IntN.{ℤ, pos}
@@ -18,9 +18,9 @@ use lib.Ieee.Exact.{HasValue, units-val}
 use lib.Ieee.Back.{round-whole}
 use lib.Ieee.Scale.{round-same}
 use Rattle.field64.specs.Field.{p64, subMod}
-use Rattle.doubles.specs.Doubles.{signed, floorDiv, clamp, modP}
+use Rattle.doubles.specs.Doubles.{signed, floorDiv, modP}
 use Rattle.doubles.specs.Steps.{floorMod}
-use Rattle.doubles.proofs.Floor.{alike, ltb-scale, yes, no, floor-negative, uncapped}
+use Rattle.doubles.proofs.Floor.{alike, ltb-scale, yes, no, floor-negative}
 
 -- 3 * 2 ^ 51
 abbrev pub middle : ℕ
@@ -264,7 +264,7 @@ negative-quotient a c C A h = div-eq-of-lt-le c (lower ((a - 1) / c) (middle - 1
     upper : (k r c a : ℕ) → middle * c ≡ k * c + r * c + c → k * c ≤ a - 1 → 0 < a → a < 2 ^ 50 * c → middle * c - a < (r + 1) * c
     upper k r c a e f A h = omega (arith, add-mul r 1 c, one-mul c)
 
-negative-floor : (a c : ℕ) → 0 < c → 0 < a → a < 2 ^ 50 * c → subMod p64 (base + (middle * c - a) / c) (base + middle) ≡ p64 - 1 - min ((a - 1) / c) (2 ^ 64 - 2) % p64
+negative-floor : (a c : ℕ) → 0 < c → 0 < a → a < 2 ^ 50 * c → subMod p64 (base + (middle * c - a) / c) (base + middle) ≡ p64 - 1 - (a - 1) / c % p64
 negative-floor a c C A h =
     let k : (a - 1) / c < 2 ^ 50 = small-quotient (a - 1) c C (lt-of-le-of-lt (less a) h) in
     ap (λ (x : ℕ). subMod p64 (base + x) (base + middle)) (negative-quotient a c C A h) ∙ ends ((a - 1) / c) k
@@ -272,11 +272,11 @@ negative-floor a c C A h =
     less : (a : ℕ) → a - 1 ≤ a
     less a = omega arith
 
-    ends : (k : ℕ) → k < 2 ^ 50 → subMod p64 (base + (middle - 1 - k)) (base + middle) ≡ p64 - 1 - min k (2 ^ 64 - 2) % p64
+    ends : (k : ℕ) → k < 2 ^ 50 → subMod p64 (base + (middle - 1 - k)) (base + middle) ≡ p64 - 1 - k % p64
     ends k h =
         ap (λ (x : ℕ). x % p64) (regroup k h)
         ∙ mod-eq-of-lt (under k)
-        ∙ ap (λ (x : ℕ). p64 - 1 - x) (sym (mod-eq-of-lt (below k h)) ∙ ap (λ (x : ℕ). x % p64) (sym (uncapped k (2 ^ 64 - 2) (most k h))))
+        ∙ ap (λ (x : ℕ). p64 - 1 - x) (sym (mod-eq-of-lt (below k h)))
       where
         regroup : (k : ℕ) → k < 2 ^ 50 → base + (middle - 1 - k) + (p64 - (base + middle)) ≡ p64 - 1 - k
         regroup k h = omega arith
@@ -287,20 +287,14 @@ negative-floor a c C A h =
         below : (k : ℕ) → k < 2 ^ 50 → k < p64
         below k h = omega arith
 
-        most : (k : ℕ) → k < 2 ^ 50 → k ≤ 2 ^ 64 - 2
-        most k h = omega arith
-
 size-below : (a c : ℕ) → a * 1 < 1 * 2 ^ 50 * c → a < 2 ^ 50 * c
 size-below a c h = omega arith
 
-floor-is : (s : Bool) (a c : ℕ) → 0 < c → a < 2 ^ 50 * c → subMod p64 (base + shifted s a c / c) (base + middle) ≡ modP p64 (clamp (floorDiv (signed s a) c))
+floor-is : (s : Bool) (a c : ℕ) → 0 < c → a < 2 ^ 50 * c → subMod p64 (base + shifted s a c / c) (base + middle) ≡ modP p64 (floorDiv (signed s a) c)
 floor-is false a c C h =
-    positive-floor a c C h ∙ ap (λ (x : ℕ). x % p64) (sym (uncapped (a / c) (2 ^ 64 - 1) (most (a / c) (small-quotient a c C h)))) ∙ (unfold floorDiv clamp modP in refl)
-  where
-    most : (k : ℕ) → k < 2 ^ 50 → k ≤ 2 ^ 64 - 1
-    most k h = omega arith
+    positive-floor a c C h ∙ (unfold floorDiv modP in refl)
 floor-is true zero c C h =
-    ap (λ (x : ℕ). subMod p64 (base + x / c) (base + middle)) (sub-zero (middle * c)) ∙ ap (λ (x : ℕ). subMod p64 (base + x) (base + middle)) (mul-div-cancel middle C) ∙ (unfold floorDiv clamp modP in ap (λ (x : ℕ). min x (2 ^ 64 - 1) % p64) (sym (zero-div c)))
+    ap (λ (x : ℕ). subMod p64 (base + x / c) (base + middle)) (sub-zero (middle * c)) ∙ ap (λ (x : ℕ). subMod p64 (base + x) (base + middle)) (mul-div-cancel middle C) ∙ (unfold floorDiv modP in ap (λ (x : ℕ). x % p64) (sym (zero-div c)))
 floor-is true (suc a) c C h = negative-floor (suc a) c C (zero-lt-suc a) h ∙ sym (floor-negative (suc a) c (zero-lt-suc a))
 
 -- w + M, and whether w is below that less M

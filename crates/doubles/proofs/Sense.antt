@@ -1,15 +1,16 @@
 -- The definitions of `specs/Doubles.antt` are what they are called: the floor is the one whole number with floor * c ≤ z < (floor + 1) * c, the remainder is below p, and for p64 differs from z
--- by a multiple of it, and the clamp leaves what lies between its ends. Assumes nothing.
-use mathlib.Core.Path.{_≡_, refl, sym, ap}
-use Prim.Native.Nat.{ℕ, zero, suc, _+_, _-_, _*_, _/_, _%_, _^_, _≤_, _<_, min}
+-- by a multiple of it. Assumes nothing.
+use mathlib.Core.Path.{_≡_, refl, sym}
+use mathlib.Core.Bool.{true, false}
+use Prim.Native.Nat.{ℕ, zero, suc, _+_, _-_, _*_, _/_, _%_, _≤_, _<_}
 use native.Mathlib.Nat.{le-of-eq, le-of-suc-le-suc, lt-of-lt-of-le, suc-mul, mod-lt, div-mul-le-self, lt-div-mul-add}
 use native.Mathlib.Omega.{arith}
 use lib.IntN.{ℤ, pos, negsuc, sucℤ, negℤ, _*ℤ_}
-use lib.Dec.{T, leb→le, le→leb, lt→ltb}
+use lib.Dec.{T, le→leb, lt→ltb}
 use lib.Signed.{leZ, ltZ}
-use lib.Ieee.{Float}
+use lib.Ieee.{Float, nan, fin}
 use Rattle.field64.specs.Field.{p64}
-use Rattle.doubles.specs.Doubles.{floorDiv, clamp, modP, floorOf, element}
+use Rattle.doubles.specs.Doubles.{floorDiv, beyond, modP, floorLimit64, unusable, floorOf, coordinateRule, element}
 
 neg-le : (n a : ℕ) → a < n → T (leZ (negℤ (pos n)) (negsuc a))
 neg-le zero a h = absurd (no a h)
@@ -44,7 +45,7 @@ modP-below p h (negsuc n) = go (n % p)
 
 pub element-below : (p : ℕ) → 0 < p → (x : Float) (f : ℕ) → element p x f < p
 unfolding element
-element-below p h x f = modP-below p h (clamp (floorOf x f))
+element-below p h x f = modP-below p h (floorOf x f)
 
 pub modP-positive : (n : ℕ) → modP p64 (pos n) ≡ n % p64
 unfolding modP
@@ -58,29 +59,18 @@ modP-negative n = go n
     go : (n : ℕ) → (p64 - 1 - n % p64 + suc n) % p64 ≡ 0
     go n = omega arith
 
-pub clamp-between : (z : ℤ) → T (leZ (negℤ (pos (2 ^ 64 - 1))) z) → T (leZ z (pos (2 ^ 64 - 1))) → clamp z ≡ z
-unfolding clamp
-clamp-between (pos n) l h = ap pos (go n (leb→le n (2 ^ 64 - 1) h))
-  where
-    go : (n : ℕ) → n ≤ 2 ^ 64 - 1 → min n (2 ^ 64 - 1) ≡ n
-    go n h = omega arith
-clamp-between (negsuc n) l h = ap negsuc (go n (leb→le n (2 ^ 64 - 2) l))
-  where
-    go : (n : ℕ) → n ≤ 2 ^ 64 - 2 → min n (2 ^ 64 - 2) ≡ n
-    go n h = omega arith
+-- ---- worked rows
 
-pub clamp-above : (z : ℤ) → T (leZ (pos (2 ^ 64 - 1)) z) → clamp z ≡ pos (2 ^ 64 - 1)
-unfolding clamp
-clamp-above (pos n) h = ap pos (go n (leb→le (2 ^ 64 - 1) n h))
-  where
-    go : (n : ℕ) → 2 ^ 64 - 1 ≤ n → min n (2 ^ 64 - 1) ≡ 2 ^ 64 - 1
-    go n h = omega arith
-clamp-above (negsuc n) h = absurd h
+-- the limit, and what lies beyond one
+limit : floorLimit64 ≡ 9223372034707292160
+limit = refl
 
-pub clamp-below : (z : ℤ) → T (leZ z (negℤ (pos (2 ^ 64 - 1)))) → clamp z ≡ negℤ (pos (2 ^ 64 - 1))
-unfolding clamp
-clamp-below (pos n) h = absurd h
-clamp-below (negsuc n) h = ap negsuc (go n (leb→le (2 ^ 64 - 2) n h))
-  where
-    go : (n : ℕ) → 2 ^ 64 - 2 ≤ n → min n (2 ^ 64 - 2) ≡ 2 ^ 64 - 2
-    go n h = omega arith
+beyond-rows : (beyond 5 (pos 5) ≡ false) × (beyond 5 (pos 6) ≡ true) × (beyond 5 (negsuc 4) ≡ false) × (beyond 5 (negsuc 5) ≡ true)
+beyond-rows = (refl, refl, refl, refl)
+
+-- over a limit of 5, at f 1: a NaN, 3.0, -3.0, 2.5, -2.5 and -2.75
+rule-rows : (coordinateRule 5 nan 1 ≡ record { number = 8; place = 0 }) × (coordinateRule 5 (fin false 3 (pos 0)) 1 ≡ record { number = 17; place = 0 })
+    × (coordinateRule 5 (fin true 3 (pos 0)) 1 ≡ record { number = 17; place = 0 }) × (coordinateRule 5 (fin false 5 (negsuc 0)) 1 ≡ record { number = 0; place = 0 })
+    × (coordinateRule 5 (fin true 5 (negsuc 0)) 1 ≡ record { number = 0; place = 0 }) × (coordinateRule 5 (fin true 11 (negsuc 1)) 1 ≡ record { number = 17; place = 0 })
+unfolding unusable floorOf floorDiv
+rule-rows = (refl, refl, refl, refl, refl, refl)

@@ -1,13 +1,14 @@
 -- A double as a field number, and back (document 01, "The gradient and norm bits", "Aggregates"). `Float` is the kit's account of IEEE 754: `fin s m e` is the number m · 2 ^ e,
 -- negative where s is true, and 2 ^ e is the fraction up e / down e. A whole number is `pos n`, which is n, or `negsuc n`, which is -(n + 1). Assumes nothing.
-use Prim.Native.Nat.{ℕ, _-_, _*_, _/_, _%_, _^_, min}
+use Prim.Native.Nat.{ℕ, _-_, _*_, _/_, _%_, _^_}
 use mathlib.Core.Bool.{Bool, true, false, cond, _&&_}
 use mathlib.Core.List.{List, [], _∷_}
-use lib.IntN.{ℤ, pos, negsuc, negℤ}
+use lib.IntN.{ℤ, pos, negsuc, negℤ, natAbs}
 use lib.Dec.{ltb, leb, eqb}
 use lib.Ieee.{Float, nan, inf, fin, binary64, up, down, ofInt, neg, div}
 use Rattle.rules.specs.declared.Answer.{Answer}
-use Rattle.rules.specs.Rules.{refuse, inOrder}
+use Rattle.rules.specs.Rules.{refuse, first, inOrder}
+use Rattle.field64.specs.Field.{p64}
 use Rattle.doubles.specs.declared.Coordinate.{Coordinate}
 use Rattle.doubles.specs.declared.Decoded.{Decoded}
 
@@ -22,10 +23,9 @@ unfoldable pub floorDiv : ℤ → (c : ℕ) → ℤ
 floorDiv (pos a) c = pos (a / c)
 floorDiv (negsuc a) c = negsuc (a / c)
 
--- z, brought to the nearer end of -(2 ^ 64 - 1) to 2 ^ 64 - 1 where it lies beyond
-unfoldable pub clamp : ℤ → ℤ
-clamp (pos n) = pos (min n (2 ^ 64 - 1))
-clamp (negsuc n) = negsuc (min n (2 ^ 64 - 2))
+-- z is below -limit or above limit
+abbrev pub beyond : (limit : ℕ) → ℤ → Bool
+beyond limit z = ltb limit (natAbs z)
 
 -- z modulo p, from 0 to p - 1: -(n + 1) is p - 1 - n modulo p
 unfoldable pub modP : (p : ℕ) → ℤ → ℕ
@@ -48,31 +48,35 @@ unusable nan = true
 unusable (inf s) = true
 unusable (fin s m e) = subnormal m e
 
--- rule 8
-abbrev pub coordinateRule : Float → Answer
-coordinateRule x = refuse (unusable x) 8 0
-
 -- floor (x · 2 ^ f), for a finite x
 unfoldable pub floorOf : Float → (f : ℕ) → ℤ
 floorOf nan f = pos 0
 floorOf (inf s) f = pos 0
 floorOf (fin s m e) f = floorDiv (signed s (m * up e * 2 ^ f)) (down e)
 
--- floor (x · 2 ^ f), clamped, modulo p
+-- how far from 0 a floor may lie, over Field64
+abbrev pub floorLimit64 : ℕ
+floorLimit64 = (p64 - 1) / 2
+
+-- rule 8, then rule 17: the floor lies beyond the limit
+abbrev pub coordinateRule : (limit : ℕ) → Float → (f : ℕ) → Answer
+coordinateRule limit x f = first (refuse (unusable x) 8 0) (refuse (beyond limit (floorOf x f)) 17 0)
+
+-- floor (x · 2 ^ f), modulo p
 unfoldable pub element : (p : ℕ) → Float → (f : ℕ) → ℕ
-element p x f = modP p (clamp (floorOf x f))
+element p x f = modP p (floorOf x f)
 
 -- the element, where the answer accepts; beside a refusal it is 0
 abbrev pub coordinate : Answer → ℕ → Coordinate
 coordinate a y = record { answer = a; element = cond (eqb (a .number) 0) y 0 }
 
 -- a coordinate of a gradient whose frac_bits are accepted
-unfoldable pub encoded : (p : ℕ) → Float → (f : ℕ) → Coordinate
-encoded p x f = coordinate (coordinateRule x) (element p x f)
+unfoldable pub encoded : (p limit : ℕ) → Float → (f : ℕ) → Coordinate
+encoded p limit x f = coordinate (coordinateRule limit x f) (element p x f)
 
 -- what `f64_to_field` answers
-unfoldable pub coordinateOf : (p : ℕ) → Float → (f : ℕ) → Coordinate
-coordinateOf p x f = coordinate (inOrder (fracBitsRule f ∷ coordinateRule x ∷ [])) (element p x f)
+unfoldable pub coordinateOf : (p limit : ℕ) → Float → (f : ℕ) → Coordinate
+coordinateOf p limit x f = coordinate (inOrder (fracBitsRule f ∷ coordinateRule limit x f ∷ [])) (element p x f)
 
 -- ---- to a double
 

@@ -1,16 +1,22 @@
 -- What the inner functions of `doubles` give. Assumes nothing.
-use Prim.Native.Nat.{ℕ, _-_, _*_, _^_}
+use Prim.Native.Nat.{ℕ, _*_}
 use mathlib.Core.Bool.{Bool, false, not, _&&_, cond}
 use lib.IntN.{pos, negsuc}
 use lib.Ieee.{Float, nan, inf, fin, up, down, neg, lt}
 use Rattle.field64.specs.Field.{p64}
-use Rattle.doubles.specs.Doubles.{signed, floorDiv, clamp, modP}
+use Rattle.doubles.specs.Doubles.{signed, floorDiv, beyond, modP, floorLimit64}
 
--- a double's floor, clamped, modulo p; an infinity is clamped
+-- a finite double's floor, modulo p
 unfoldable pub floorMod : Float → ℕ
 floorMod nan = 0
-floorMod (inf s) = modP p64 (signed s (2 ^ 64 - 1))
-floorMod (fin s m e) = modP p64 (clamp (floorDiv (signed s (m * up e)) (down e)))
+floorMod (inf s) = 0
+floorMod (fin s m e) = modP p64 (floorDiv (signed s (m * up e)) (down e))
+
+-- a double is finite, and its floor not beyond the limit
+unfoldable pub within : Float → Bool
+within nan = false
+within (inf s) = false
+within (fin s m e) = not (beyond floorLimit64 (floorDiv (signed s (m * up e)) (down e)))
 
 -- a double's size; -0 stays as it is
 unfoldable pub sizeOf : Float → Float

@@ -5,19 +5,21 @@
 use rules::Answer;
 ghost use mathlib.Core.Path.{_≡_};
 ghost use mathlib.Core.Bool.{true, false, not};
-ghost use Prim.Native.Nat.{_-_, _%_, _≤_, _<_};
+ghost use Prim.Native.Nat.{_≤_, _<_};
 ghost use lib.Dec.{T};
 ghost use lib.IntN.{pos};
-ghost use lib.Ieee.{fin, lt, isNan};
+ghost use lib.Ieee.{fin, lt};
 ghost use Rattle.field64.specs.Field.{p64};
-ghost use Rattle.doubles.specs.Doubles.{fracBitsRule, power, unusable, element, encoded, coordinateOf, decoded, decodedOf};
-ghost use Rattle.doubles.specs.Steps.{floorMod, sizeOf, normalSize};
+ghost use Rattle.doubles.specs.Doubles.{fracBitsRule, floorLimit64, power, unusable, coordinateRule, element, encoded, coordinateOf, decoded, decodedOf};
+ghost use Rattle.doubles.specs.Steps.{floorMod, within, sizeOf, normalSize};
 
 // The largest frac_bits.
 const MAX_FRAC_BITS: u64 = 30;
 
-// (p - 1) / 2.
+// (p - 1) / 2, and as a double.
 const HALF: u64 = 0x7fff_ffff_8000_0000;
+
+const LIMIT: f64 = 9223372034707292160.0;
 
 // 3 * 2^51, and its bit pattern.
 const MIDDLE: f64 = 6755399441055744.0;
@@ -51,25 +53,6 @@ pub fn scale_of(frac_bits: u64) -> f64
     ensures { λ r. ⌜ r ≡ power «frac_bits» ⌝ }
 {
     (1u64 << frac_bits) as f64
-}
-
-// n modulo p.
-fn reduced(n: u64) -> u64
-    ensures { λ r. ⌜ r ≡ n % p64 ⌝ }
-{
-    if n < field64::P { n } else { n - field64::P }
-}
-
-// -n modulo p, for an n above 0.
-fn negated(n: u64) -> u64
-    requires { ⌜ 1 ≤ n ⌝ }
-    ensures { λ r. ⌜ r ≡ p64 - 1 - (n - 1) % p64 ⌝ }
-{
-    if n <= field64::P {
-        field64::P - n
-    } else {
-        field64::P - (n - field64::P)
-    }
 }
 
 // Whether a, which is not negative, is neither subnormal nor infinite nor a NaN.
@@ -113,34 +96,28 @@ fn near_floor(w: f64) -> u64
     field64::sub(floor, MIDDLE_BITS)
 }
 
-// The floor of w, clamped to 2^64 - 1 either way, modulo p. Below zero, the size of the floor is
-// the whole part of -w, and one more where that leaves something of -w.
+// The same, of w up to (p - 1) / 2 in size. Below zero, the size of the floor is the whole part of
+// -w, and one more where that leaves something of -w.
 fn far_floor(w: f64) -> u64
-    requires { ⌜ T (not (isNan w)) ⌝ }
+    requires { ⌜ within w ≡ true ⌝ }
     ensures { λ r. ⌜ r ≡ floorMod w ⌝ }
 {
     if w < 0.0 {
         let a = -w;
-        if a < 18446744073709551616.0 {
-            let t = std::num::truncating_f64_to_u64(a);
-            if std::num::nearest_u64_to_f64(t) < a {
-                negated(t + 1)
-            } else {
-                negated(t)
-            }
+        let t = std::num::truncating_f64_to_u64(a);
+        if std::num::nearest_u64_to_f64(t) < a {
+            field64::P - (t + 1)
         } else {
-            negated(0xffff_ffff_ffff_ffff)
+            field64::P - t
         }
-    } else if w < 18446744073709551616.0 {
-        reduced(std::num::truncating_f64_to_u64(w))
     } else {
-        reduced(0xffff_ffff_ffff_ffff)
+        std::num::truncating_f64_to_u64(w)
     }
 }
 
 // The same: below 2^50 in size, as coordinates are, with no branch on the sign or the exponent.
 fn floor_to_field(w: f64) -> u64
-    requires { ⌜ T (not (isNan w)) ⌝ }
+    requires { ⌜ within w ≡ true ⌝ }
     ensures { λ r. ⌜ r ≡ floorMod w ⌝ }
 {
     if -1125899906842624.0 < w {
@@ -151,32 +128,54 @@ fn floor_to_field(w: f64) -> u64
     far_floor(w)
 }
 
-// The element of a usable x at the scale 2^frac_bits.
+// Whether w is finite and its floor not beyond (p - 1) / 2 either way. From 2^53 on a double is its
+// own floor, so that w is compared in its place.
+fn within_limit(w: f64) -> bool
+    ensures { λ r. ⌜ r ≡ within w ⌝ }
+{
+    if -LIMIT <= w { w <= LIMIT } else { false }
+}
+
+// Rules 8 and 17 of x at the scale 2^frac_bits.
+pub fn check_coordinate(x: f64, scale: f64, frac_bits: u64) -> Answer
+    requires { ⌜ scale ≡ power «frac_bits» ⌝ }
+    ensures { λ r. ⌜ r ≡ coordinateRule floorLimit64 x «frac_bits» ⌝ }
+{
+    if !usable(x) {
+        return Answer {
+            number: rules::COORDINATE,
+            place: 0,
+        };
+    }
+    if !within_limit(x * scale) {
+        return Answer {
+            number: rules::FLOOR,
+            place: 0,
+        };
+    }
+    Answer::accepted()
+}
+
+// The element of x at the scale 2^frac_bits.
 pub fn element_of(x: f64, scale: f64, frac_bits: u64) -> u64
-    requires { ⌜ unusable x ≡ false ⌝ ∗ ⌜ scale ≡ power «frac_bits» ⌝ }
+    requires { ⌜ coordinateRule floorLimit64 x «frac_bits» .number ≡ 0 ⌝ ∗ ⌜ scale ≡ power «frac_bits» ⌝ }
     ensures { λ r. ⌜ r ≡ element p64 x «frac_bits» ⌝ }
 {
     floor_to_field(x * scale)
 }
 
-// x at the scale 2^frac_bits, or rule 8.
+// x at the scale 2^frac_bits, by rules 8 and 17.
 pub fn encode(x: f64, scale: f64, frac_bits: u64) -> Coordinate
     requires { ⌜ scale ≡ power «frac_bits» ⌝ }
-    ensures { λ r. ⌜ r ≡ encoded p64 x «frac_bits» ⌝ }
+    ensures { λ r. ⌜ r ≡ encoded p64 floorLimit64 x «frac_bits» ⌝ }
 {
-    if usable(x) {
-        Coordinate {
-            answer: Answer::accepted(),
-            element: element_of(x, scale, frac_bits),
-        }
-    } else {
-        Coordinate {
-            answer: Answer {
-                number: rules::COORDINATE,
-                place: 0,
-            },
-            element: 0,
-        }
+    let answer = check_coordinate(x, scale, frac_bits);
+    if answer.number != 0 {
+        return Coordinate { answer, element: 0 };
+    }
+    Coordinate {
+        answer,
+        element: element_of(x, scale, frac_bits),
     }
 }
 
@@ -197,7 +196,7 @@ pub fn decode(y: u64, scale: f64, frac_bits: u64) -> f64
 
 // The double x as a field number.
 pub fn f64_to_field(x: f64, frac_bits: u64) -> Coordinate
-    ensures { λ r. ⌜ r ≡ coordinateOf p64 x «frac_bits» ⌝ }
+    ensures { λ r. ⌜ r ≡ coordinateOf p64 floorLimit64 x «frac_bits» ⌝ }
 {
     if MAX_FRAC_BITS < frac_bits {
         return Coordinate {

@@ -1,4 +1,4 @@
--- The cases of encoding: refused by rules 1 to 9, or by 10 or 11, or accepted. Assumes nothing.
+-- The cases of encoding: refused by rules 1 to 9 or 17, or by 10 or 11, or accepted. Assumes nothing.
 use mathlib.Core.Path.{_≡_, refl, sym, ap, _∙_}
 use mathlib.Core.Bool.{Bool, true, false, cond}
 use mathlib.Core.List.{List, [], _∷_, _++_}
@@ -51,7 +51,7 @@ module _ (F : Field) (i : PineParam) (g : List Float) (s m r : List ℕ) where
   abbrev xs : List ℕ
   xs = elements (F .p) (i .«frac_bits») g
 
-  -- ---- rules 1 to 9
+  -- ---- rules 1 to 9 and 17
 
   -- one of the first six is broken
   pub early-stopped : (a : Answer) → a ≡ paramAnswer F i → (a .number ≡ 0 → ⊥) → a ≡ early
@@ -63,7 +63,7 @@ module _ (F : Field) (i : PineParam) (g : List Float) (s m r : List ℕ) where
       → a₂ ≡ rowRule 2 (length s) (streamLen (i .«num_wr_tests») (i .dimension))
       → a₃ ≡ rowRule 3 (length m) (encodedInputLen i)
       → a₄ ≡ rowRule 4 (length r) (i .«num_wr_tests»)
-      → a₅ ≡ coordinatesRule 0 g
+      → a₅ ≡ coordinatesRule (F .floorLimit) (i .«frac_bits») 0 g
       → a₆ ≡ gradientLenRule (length g) (i .dimension)
       → first a₂ (first a₃ (first a₄ (first a₅ a₆))) ≡ early
   unfolding encodeRules
@@ -86,7 +86,7 @@ module _ (F : Field) (i : PineParam) (g : List Float) (s m r : List ℕ) where
       pub stream-long : length s ≡ streamLen (i .«num_wr_tests») (i .dimension)
       pub measurement-long : length m ≡ encodedInputLen i
       pub results-long : length r ≡ i .«num_wr_tests»
-      pub usable : Usable g
+      pub usable : Usable (F .floorLimit) (i .«frac_bits») g
       pub gradient-long : length g ≡ i .dimension
       pub small : (i .dimension ≤ 65536) × (i .«num_wr_tests» ≤ 256)
 
@@ -100,7 +100,7 @@ module _ (F : Field) (i : PineParam) (g : List Float) (s m r : List ℕ) where
           stream-long = row-right 2 _ _ (h .1 .0);
           measurement-long = row-right 3 _ _ (h .1 .1 .0);
           results-long = row-right 4 _ _ (h .1 .1 .1 .0);
-          usable = all-usable 0 g (h .1 .1 .1 .1 .0);
+          usable = all-usable (F .floorLimit) (i .«frac_bits») 0 g (h .1 .1 .1 .1 .0);
           gradient-long = eqb-true _ _ (so _ 8 0 (h .1 .1 .1 .1 .1 .0));
           small = (l .dimension .1, l .tests .1);
         }
@@ -171,6 +171,10 @@ part-long n h = length-take-le n (replicate {A = ℕ} 256 0) h
 -- ---- of the record
 
 module _ (i : PineParam) (R : Pine) (is : R ≡ pineOf i) where
+  pub fraction-is : R .«frac_bits» ≡ i .«frac_bits»
+  unfolding pineOf
+  fraction-is = rw is
+
   -- b, as the record answers for it
   pub bound-is : paramAnswer Field64 i ≡ accepted → boundIn R ≡ wrTestBound i
   bound-is e = ap boundIn is ∙ recovered-64 i e .bound

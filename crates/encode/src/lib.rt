@@ -8,7 +8,7 @@ ghost use Rattle.rules.specs.Rules.{accepted, inOrder};
 ghost use Rattle.pine.specs.Param.{Field64};
 ghost use Rattle.flp.specs.Encode.{encodeRules, encodeOutcome, encodeOf};
 
-// Rules 1 to 9, of encoding.
+// Rules 1 to 9 and 17, of encoding.
 fn check_encode(
     param: PineParam,
     gradient: &[f64],
@@ -26,12 +26,12 @@ fn check_encode(
     let row_2 = rows::check_len(2, stream.len(), pine.stream_len());
     let row_3 = rows::check_len(3, measurement.len(), pine.encoded_input_len);
     let row_4 = rows::check_len(4, results.len(), pine.num_wr_tests);
-    let coordinates = gradient_rules::check_coordinates(gradient);
+    let coordinates = gradient_rules::check_coordinates(gradient, pine.scale, pine.frac_bits);
     let gradient_len = gradient_rules::check_gradient_len(gradient.len(), pine.dimension);
     row_2.or(row_3.or(row_4.or(coordinates.or(gradient_len))))
 }
 
-// Encoding where rules 1 to 9 are met, with a row for the results that may be spoilt: they are known
+// Encoding where these are met, with a row for the results that may be spoilt: they are known
 // before anything is written.
 fn encode_usable(
     param: PineParam,

@@ -5,7 +5,7 @@ use Prim.Native.Nat.{ℕ, _-_}
 use lib.ListN.{replicate}
 use lib.Ieee.{Float, binary64, ofBits}
 use Rattle.field64.specs.Field.{p64, inverseFrom}
-use Rattle.doubles.specs.Doubles.{floorDiv, clamp, modP, unusable, floorOf, element}
+use Rattle.doubles.specs.Doubles.{floorDiv, modP, unusable, floorOf, element}
 use Rattle.pine.specs.declared.PineParam.{PineParam}
 use Rattle.rules.specs.Rules.{answer, accepted}
 use Rattle.pine.specs.Param.{Field64, paramRules, paramAnswer}
@@ -53,6 +53,11 @@ pub record Rows : Type 0 where
   pub short-measurement : encodeAnswer Field64 other six-doubles bytes (replicate 46 7) (replicate 2 7) ≡ answer 7 3
   pub short-results : encodeAnswer Field64 other six-doubles bytes (replicate 47 7) (replicate 2 7) ≡ answer 7 4
   pub not-a-number : encodeAnswer Field64 other (double 0 ∷ double 0x7ff8_0000_0000_0000 ∷ []) bytes (replicate 47 7) (replicate 3 7) ≡ answer 8 1
+  -- 8 and 17 are found in one pass, whatever the gradient's length: 1e300 and NaN
+  pub huge-first : encodeAnswer Field64 other (double 0 ∷ double 0x7e37_e43c_8800_759c ∷ double 0x7ff8_0000_0000_0000 ∷ []) bytes (replicate 47 7) (replicate 3 7) ≡ answer 17 1
+  pub huge-second : encodeAnswer Field64 other (double 0 ∷ double 0x7ff8_0000_0000_0000 ∷ double 0x7e37_e43c_8800_759c ∷ []) bytes (replicate 47 7) (replicate 3 7) ≡ answer 8 1
+  -- 2 ^ 61, and with f 2 its floor 2 ^ 63
+  pub huge-scaled : encodeAnswer Field64 other (double 0x43c0_0000_0000_0000 ∷ []) bytes (replicate 47 7) (replicate 3 7) ≡ answer 17 0
   pub short-gradient : encodeAnswer Field64 other (double 0 ∷ []) bytes (replicate 47 7) (replicate 3 7) ≡ answer 9 0
   -- v is 2 ^ 64 modulo p, within its bound; test 0 skips the coordinate, test 1 adds it
   pub second-test : encodeAnswer Field64 (inputs 65536 1 0 1 1 3 1) (double 0x41f0_0000_0000_0000 ∷ []) (1 ∷ 3 ∷ 3 ∷ []) (replicate 133 7) (replicate 3 7) ≡ answer 11 1
@@ -63,8 +68,8 @@ pub record Rows : Type 0 where
   pub joint-element : validOf Field64 other 255 (replicate 50 0) (1 ∷ p64 ∷ 0 ∷ []) .answer ≡ answer 12 51
 
 pub rows : Rows
-unfolding encodeOf encodeRules measurementOf resultsOf coordinatesRule rangeRule elements sqNorm testBits bits evaluate groups pairs weighed weigh testOf testsOf halvings digits sqNormBound sqNormBits wrTestBound wrTestBits bitCheckedLen encodedInputLen element floorOf floorDiv clamp modP unusable paramAnswer paramRules ofBits validOf validRules validValue validCalls gradientPart checkedPart resultsPart testParts testNumber successBit normV normU termA termN testTerms termW termG chunksTaken inverseFrom inputLen validEqualOf validEqualRules validEqualValue validEqualCalls
-rows = record { six = refl; shares-1 = refl; shares-2 = refl; shares-3 = refl; shares-255 = refl; equal = refl; more-successes = refl; norm-0 = refl; dimension-0 = refl; fraction = refl; chunk = refl; tests = refl; short-stream = refl; short-measurement = refl; short-results = refl; not-a-number = refl; short-gradient = refl; second-test = refl; full-length = refl; joint-length = refl; no-share = refl; too-many = refl; joint-element = refl }
+unfolding encodeOf encodeRules measurementOf resultsOf coordinatesRule rangeRule elements sqNorm testBits bits evaluate groups pairs weighed weigh testOf testsOf halvings digits sqNormBound sqNormBits wrTestBound wrTestBits bitCheckedLen encodedInputLen element floorOf floorDiv modP unusable paramAnswer paramRules ofBits validOf validRules validValue validCalls gradientPart checkedPart resultsPart testParts testNumber successBit normV normU termA termN testTerms termW termG chunksTaken inverseFrom inputLen validEqualOf validEqualRules validEqualValue validEqualCalls
+rows = record { six = refl; shares-1 = refl; shares-2 = refl; shares-3 = refl; shares-255 = refl; equal = refl; more-successes = refl; norm-0 = refl; dimension-0 = refl; fraction = refl; chunk = refl; tests = refl; short-stream = refl; short-measurement = refl; short-results = refl; not-a-number = refl; huge-first = refl; huge-second = refl; huge-scaled = refl; short-gradient = refl; second-test = refl; full-length = refl; joint-length = refl; no-share = refl; too-many = refl; joint-element = refl }
 
 -- ---- by fields: in contracts the name `encodeOutcome` stands on both sides, where nothing holds it to its sense
 record Fields : Type 0 where
@@ -73,7 +78,7 @@ record Fields : Type 0 where
       ≡ record { answer = record { number = 0; place = 0 }; measurement = 0 ∷ 0 ∷ 1 ∷ 1 ∷ 1 ∷ 1 ∷ 1 ∷ 0 ∷ 1 ∷ []; results = 0 ∷ [] }
 
 fields : Fields
-unfolding encodeOf encodeRules measurementOf resultsOf coordinatesRule rangeRule elements sqNorm testBits bits evaluate groups pairs weighed weigh testOf testsOf halvings digits sqNormBound sqNormBits wrTestBound wrTestBits bitCheckedLen encodedInputLen element floorOf floorDiv clamp modP unusable paramAnswer paramRules ofBits
+unfolding encodeOf encodeRules measurementOf resultsOf coordinatesRule rangeRule elements sqNorm testBits bits evaluate groups pairs weighed weigh testOf testsOf halvings digits sqNormBound sqNormBits wrTestBound wrTestBits bitCheckedLen encodedInputLen element floorOf floorDiv modP unusable paramAnswer paramRules ofBits
 fields = record { refused = refl; taken = refl }
 
 -- ---- tests alone, and the parts of a vector

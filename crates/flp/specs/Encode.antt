@@ -49,10 +49,10 @@ module _ (p : ℕ) (i : PineParam) (stream xs : List ℕ) where
       ++ (bits (sqNormBits i) (subMod p (sqNormBound i) (sqNorm p xs))
       ++ testBits p (wrTestBits i) (wrTestBound i) (i .«num_wr_successes») resultsOf))
 
--- rule 8: the first coordinate that is refused, counted from k
-unfoldable pub coordinatesRule : (k : ℕ) (gradient : List Float) → Answer
-coordinatesRule k [] = accepted
-coordinatesRule k (x ∷ xs) = cond (eqb (coordinateRule x .number) 0) (coordinatesRule (suc k) xs) (answer (coordinateRule x .number) k)
+-- rules 8 and 17: the first coordinate that either refuses, counted from k
+unfoldable pub coordinatesRule : (limit f k : ℕ) (gradient : List Float) → Answer
+coordinatesRule limit f k [] = accepted
+coordinatesRule limit f k (x ∷ xs) = cond (eqb (coordinateRule limit x f .number) 0) (coordinatesRule limit f (suc k) xs) (answer (coordinateRule limit x f .number) k)
 
 -- rule 9
 abbrev pub gradientLenRule : (n d : ℕ) → Answer
@@ -89,7 +89,7 @@ module _ (F : Field) (i : PineParam) (gradient : List Float) (stream measurement
       ∷ rowRule 2 (length stream) (streamLen (i .«num_wr_tests») (i .dimension))
       ∷ rowRule 3 (length measurement) (encodedInputLen i)
       ∷ rowRule 4 (length results) (i .«num_wr_tests»)
-      ∷ coordinatesRule 0 gradient
+      ∷ coordinatesRule (F .floorLimit) (i .«frac_bits») 0 gradient
       ∷ gradientLenRule (length gradient) (i .dimension)
       ∷ sqNormRule (sqNorm (F .p) (elements (F .p) (i .«frac_bits») gradient)) (sqNormBound i)
       ∷ rangeRule (F .p) (wrTestBound i) 0 (resultsOf (F .p) i stream (elements (F .p) (i .«frac_bits») gradient))

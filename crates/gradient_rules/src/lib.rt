@@ -1,21 +1,24 @@
-// Internal: the rules on a gradient, 8 to 11. A function here asks its caller for what it does not test
+// Internal: the rules on a gradient, 8 with 17, 9, 10 and 11. A function here asks its caller for what it does not test
 // itself.
 use rules::Answer;
 ghost use mathlib.Core.Path.{_≡_};
 ghost use Prim.Native.Nat.{_≤_};
 ghost use Rattle.rules.specs.Rules.{first};
 ghost use Rattle.field64.specs.Field.{p64};
+ghost use Rattle.doubles.specs.Doubles.{floorLimit64, power};
 ghost use Rattle.flp.specs.Encode.{coordinatesRule, gradientLenRule, sqNormRule, inRange, rangeRule};
 
-// Rule 8.
-pub fn check_coordinates(gradient: &[f64]) -> Answer
-    ensures { λ r. ⌜ r ≡ coordinatesRule 0 (now (gradient .entry)) ⌝ }
+// Rules 8 and 17: the first coordinate that either refuses, in one pass.
+pub fn check_coordinates(gradient: &[f64], scale: f64, frac_bits: u64) -> Answer
+    requires { ⌜ scale ≡ power «frac_bits» ⌝ }
+    ensures { λ r. ⌜ r ≡ coordinatesRule floorLimit64 «frac_bits» 0 (now (gradient .entry)) ⌝ }
 {
     let mut i = 0;
     while i < gradient.len() {
-        if !doubles::usable(gradient[i]) {
+        let answer = doubles::check_coordinate(gradient[i], scale, frac_bits);
+        if answer.number != 0 {
             return Answer {
-                number: rules::COORDINATE,
+                number: answer.number,
                 place: i as u64,
             };
         }

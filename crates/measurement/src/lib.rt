@@ -6,7 +6,7 @@ ghost use mathlib.Core.List.{[], _∷_, _++_};
 ghost use Prim.Native.Nat.{_+_, _-_, _*_, _≤_, _<_};
 ghost use lib.ListN.{length};
 ghost use Rattle.field64.specs.Field.{p64, subMod};
-ghost use Rattle.doubles.specs.Doubles.{power};
+ghost use Rattle.doubles.specs.Doubles.{floorLimit64, power};
 ghost use Rattle.pine.specs.Record.{boundIn};
 ghost use Rattle.rows.specs.Rows.{Below};
 ghost use Rattle.flp.specs.Bits.{bits};
@@ -15,7 +15,7 @@ ghost use Rattle.measurement.specs.Parts.{Usable, checkedOf};
 
 // Writes the gradient's elements over a row of as many.
 pub fn write_elements(gradient: &[f64], scale: f64, frac_bits: u64, row: &mut [u64])
-    requires { ⌜ Usable (now gradient) ⌝ }
+    requires { ⌜ Usable floorLimit64 «frac_bits» (now gradient) ⌝ }
     requires { ⌜ scale ≡ power «frac_bits» ⌝ }
     requires { ⌜ length (now row) ≡ length (now gradient) ⌝ }
     ensures { λ _. ⌜ now (row .exit) ≡ elements p64 «frac_bits» (now (gradient .entry)) ⌝ }
@@ -106,7 +106,7 @@ pub fn write_measurement(
     results: &[u64],
     measurement: &mut [u64],
 )
-    requires { ⌜ Usable (now gradient) ⌝ }
+    requires { ⌜ Usable floorLimit64 (pine .«frac_bits») (now gradient) ⌝ }
     requires { ⌜ pine .scale ≡ power (pine .«frac_bits») ⌝ }
     requires { ⌜ length (now measurement) ≡ length (now gradient) + (2 * pine .«sq_norm_bits» + (1 + pine .«wr_test_bits») * length (now results)) ⌝ }
     requires { ⌜ Below p64 (now results) × ((0 < boundIn pine) × (boundIn pine ≤ p64)) ⌝ }

@@ -1,11 +1,15 @@
 -- What inputs that are accepted have met. Assumes nothing.
-use mathlib.Core.Path.{_≡_}
+use mathlib.Core.Path.{_≡_, refl}
 use Prim.Native.Nat.{ℕ, _≤_, _<_}
 use borrow.Author.Tests.{ltb-false}
 use Rattle.rules.specs.Rules.{accepted}
 use Rattle.rules.proofs.Chain.{passed, not-so, inside, accepted-whole}
 use Rattle.pine.specs.declared.PineParam.{PineParam}
-use Rattle.pine.specs.Param.{Field, paramRules, paramAnswer}
+use Rattle.pine.specs.Param.{Field, Field64, paramRules, paramAnswer}
+
+-- Field64, written out
+pub field-64 : Field64 ≡ record { p = 18446744069414584321; floorLimit = 9223372034707292160; normLimit = 3037000499 }
+field-64 = refl
 
 pub record Limits (F : Field) (i : PineParam) : Type 0 where
   pub successes : i .«num_wr_successes» ≤ i .«num_wr_tests»

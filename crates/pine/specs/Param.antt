@@ -5,16 +5,17 @@ use lib.Dec.{ltb}
 use Rattle.rules.specs.declared.Answer.{Answer}
 use Rattle.rules.specs.Rules.{refuse, inOrder, outOf}
 use Rattle.field64.specs.Field.{p64}
-use Rattle.doubles.specs.Doubles.{fracBitsRule}
+use Rattle.doubles.specs.Doubles.{fracBitsRule, floorLimit64}
 use Rattle.pine.specs.declared.PineParam.{PineParam}
 
--- what the calls need to know of a field: its modulus, and the largest norm bound that is allowed over it
+-- what the calls need to know of a field: its modulus, how far from 0 the floor of a coordinate may lie, and the largest norm bound that is allowed over it
 pub record Field : Type 0 where
   pub p : ℕ
+  pub floorLimit : ℕ
   pub normLimit : ℕ
 
 abbrev pub Field64 : Field
-Field64 = record { p = p64; normLimit = 3037000499 }
+Field64 = record { p = p64; floorLimit = floorLimit64; normLimit = 3037000499 }
 
 -- one chunk length
 abbrev pub chunkRule : ℕ → Answer

@@ -33,6 +33,8 @@ pub const WR_TEST: u64 = 11;
 pub const ELEMENT: u64 = 12;
 
 pub const NUM_SHARES: u64 = 13;
+// The floor of a coordinate lies beyond the field's limit.
+pub const FLOOR: u64 = 17;
 
 // The rule that was broken and its place, or 0 and 0.
 #[repr(C)]

@@ -61,6 +61,7 @@ fn content(random: &mut Random, row: &mut Row, f: u64) {
         let at = random.index(row.len());
         match row {
             Row::Doubles(row) if random.once_in(4) => row[at] = singles::double(random, f),
+            Row::Doubles(row) if random.once_in(3) => row[at] = singles::beyond(random, f),
             Row::Doubles(row) => row[at] = unusable(random),
             Row::Elements(row) | Row::Aggregate(row) => row[at] = not_an_element(random),
             Row::Stream(_) | Row::Written(_) => (),

@@ -1,14 +1,18 @@
 //! Gradients, streams and full vectors.
 
 use crate::{
-    draw::{elements, params, singles},
+    draw::{
+        elements::{self, HALF},
+        params, singles,
+    },
     param::{Param, Sizes, N, P},
     random::Random,
     whole::{self, SIGN},
 };
 
-/// Numbers whose squares are small modulo p, or nearly p: with others they make a v within the bound.
-const WRAPPING: [i128; 16] = [
+/// Numbers whose squares are small modulo p, or nearly p: with others they make a v within the bound. The last two
+/// are beyond the limit of a floor.
+const WRAPPING: [i128; 14] = [
     1 << 32,
     1 << 33,
     1 << 34,
@@ -18,12 +22,10 @@ const WRAPPING: [i128; 16] = [
     1 << 48,
     1 << 49,
     1 << 56,
+    1 << 60,
+    1 << 62,
+    HALF as i128,
     1 << 63,
-    (1 << 64) - (1 << 32) - 2048,
-    (1 << 64) - (1 << 32),
-    (1 << 64) - (1 << 32) + 2048,
-    (1 << 64) - 2048,
-    1 << 64,
     1 << 70,
 ];
 
@@ -50,9 +52,7 @@ fn in_ball(random: &mut Random, n: u64, d: usize) -> Vec<i128> {
 
 /// The whole root of v, and a little more or less, as a norm bound.
 fn root(random: &mut Random, numbers: &[i128], less: u64) -> u64 {
-    let top = i128::from(u64::MAX);
-    let clamped: Vec<i128> = numbers.iter().map(|x| *x.clamp(&-top, &top)).collect();
-    (whole::squared_norm(&clamped).isqrt() + random.below(3)).saturating_sub(less).clamp(N.0, N.1)
+    (whole::squared_norm(numbers).isqrt() + random.below(3)).saturating_sub(less).clamp(N.0, N.1)
 }
 
 /// Whole numbers for a gradient; some ways choose the norm bound by them.
@@ -91,7 +91,7 @@ fn completed(random: &mut Random, d: usize, f: u64) -> Vec<i128> {
     let first = random.index(d - 4);
     for _ in 0..random.between(1, 2) {
         let any = singles::double(random, f);
-        if whole::usable(any) {
+        if whole::coordinate_rule(any, f).is_none() {
             numbers[random.index(d)] = whole::floors(&[any], f)[0];
         }
     }

@@ -11,7 +11,7 @@ use crate::{
     whole::{EXPONENT, SIGN},
 };
 
-/// Numbers that matter after scaling: where the floor, the digits of a double, the field or the clamp turn.
+/// Numbers that matter after scaling: where the floor, the digits of a double, the field or the limit of a floor turn.
 const MARKS: [f64; 15] = [
     0.5,
     1.0,
@@ -76,6 +76,12 @@ fn size(random: &mut Random, f: u64) -> u64 {
 /// Any double's bits, for a scale of 2^f.
 pub fn double(random: &mut Random, f: u64) -> u64 {
     size(random, f) | random.pick(&[0, SIGN])
+}
+
+/// The bits of a double whose floor is beyond the limit, for a scale of 2^f.
+pub fn beyond(random: &mut Random, f: u64) -> u64 {
+    let size = if random.once_in(2) { HALF as f64 } else { random.pick(&MARKS[9..]) };
+    over(size, f, 1 + steps(random, 1).abs()) | random.pick(&[0, SIGN])
 }
 
 pub fn f64_to_field(random: &mut Random) -> Case {

@@ -1,31 +1,30 @@
--- `doubles::encode` meets its contract: rule 8, and then the element. Assumes nothing.
+-- `doubles::encode` meets its contract: the rules, and then the element. Assumes nothing.
 use borrow.Author.Needs.{needs}
-use borrow.Author.Tests.{not-true, not-false}
-use mathlib.Core.Path.{sym, _∙_}
-use Rattle.doubles.specs.Doubles.{unusable, encoded}
+use mathlib.Core.Path.{sym, ap, _∙_}
+use Rattle.field64.specs.Field.{p64}
+use Rattle.rules.specs.declared.Answer.{Answer}
+use Rattle.doubles.specs.Doubles.{floorLimit64}
+use Rattle.doubles.proofs.Accept.{encoded-refused, encoded-accepted}
 use Rattle.doubles.proofs.encode.Statement.{statement}
 use Rattle.doubles.proofs.encode.Tie as tie
 
-usable-requires : tie.Need-usable-requires
-usable-requires c κs = search needs
-
-accepted-requires : tie.Need-accepted-requires
-accepted-requires c κs = search needs
-
-element-of-requires : tie.Need-element-of-requires
-element-of-requires c κs =
-    let s = c .before .before .before in
-    (not-true _ (sym (c .before .before .usable .ensures) ∙ c .before .if1 .taken), s .pre)
+check-coordinate-requires : tie.Need-check-coordinate-requires
+check-coordinate-requires c κs = search needs
 
 returns : tie.Need-returns
-unfolding encoded
 returns c =
-    let b = c .before .before in
-    simp (c .before .accepted .ensures, c .element-of .ensures, not-true (unusable (b .before .before .args .x)) (sym (b .before .usable .ensures) ∙ b .if1 .taken))
+    let k = c .before .before in
+    let s = k .before in
+    encoded-refused floorLimit64 (s .args .x) (s .args .frac-bits) p64 (k .check-coordinate .result) (k .check-coordinate .ensures) (c .if1 .taken)
+
+element-of-requires : tie.Need-element-of-requires
+element-of-requires c κs = (ap (λ (a : Answer). a .number) (sym (c .before .before .check-coordinate .ensures)) ∙ c .if1 .left, c .before .before .before .pre)
 
 returns-2 : tie.Need-returns-2
-unfolding encoded
-returns-2 c = simp (not-false (unusable (c .before .before .args .x)) (sym (c .before .usable .ensures) ∙ c .if1 .left))
+returns-2 c =
+    let b = c .before .before .before in
+    let s = b .before in
+    encoded-accepted floorLimit64 (s .args .x) (s .args .frac-bits) p64 (b .check-coordinate .result) (b .check-coordinate .ensures) (c .element-of .result) (c .before .if1 .left) (c .element-of .ensures)
 
 pub encode-spec : {M : Type 1} → statement M
-encode-spec = tie.close (tie.spec usable-requires accepted-requires element-of-requires returns returns-2)
+encode-spec = tie.close (tie.spec check-coordinate-requires returns element-of-requires returns-2)

@@ -1,9 +1,10 @@
 -- `doubles::f64_to_field` meets its contract: rule 4, and then `encode`. Assumes nothing.
 use borrow.Author.Needs.{needs}
-use borrow.Author.Tests.{lt-ltb, le-ltb}
+use borrow.Author.Tests.{lt-ltb}
 use mathlib.Core.Path.{_∙_}
-use Rattle.rules.proofs.Chain.{refuse-last}
-use Rattle.doubles.specs.Doubles.{unusable, encoded, coordinateOf}
+use Rattle.field64.specs.Field.{p64}
+use Rattle.doubles.specs.Doubles.{floorLimit64, coordinateOf}
+use Rattle.doubles.proofs.Accept.{small-frac-bits}
 use Rattle.doubles.proofs.f64_to_field.Statement.{statement}
 use Rattle.doubles.proofs.f64_to_field.Tie as tie
 
@@ -18,10 +19,9 @@ encode-requires : tie.Need-encode-requires
 encode-requires c κs = search needs
 
 returns-2 : tie.Need-returns-2
-unfolding coordinateOf encoded
 returns-2 c =
     let s = c .before .before .before in
-    c .encode .ensures ∙ simp (le-ltb _ _ (c .before .before .if1 .left), refuse-last (unusable (s .args .x)) 7 0)
+    c .encode .ensures ∙ small-frac-bits p64 floorLimit64 (s .args .x) (s .args .frac-bits) (c .before .before .if1 .left)
 
 pub f64-to-field-spec : {M : Type 1} → statement M
 f64-to-field-spec = tie.close (tie.spec returns scale-of-requires encode-requires returns-2)

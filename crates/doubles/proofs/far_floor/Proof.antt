@@ -1,12 +1,10 @@
--- `doubles::far_floor` meets its contract. Each test says of w what a law of `proofs/Floor.antt` asks; the two numbers that w is compared with are 0 and 2 ^ 64, by their bit patterns in MIR.
--- Assumes nothing.
+-- `doubles::far_floor` meets its contract. Each test says of w what a law of `proofs/Floor.antt` asks; the number that w is compared with is 0, by its bit pattern in MIR. Assumes nothing.
 use borrow.Author.Needs.{needs}
-use mathlib.Core.Path.{sym, _∙_, ap, subst}
-use Prim.Native.Nat.{ℕ, _%_}
+use mathlib.Core.Path.{sym, _∙_, subst}
+use native.Mathlib.Omega.{arith}
 use lib.Dec.{T}
 use lib.Ieee.{binary64, fits, ofBits}
-use Rattle.field64.specs.Field.{p64}
-use Rattle.doubles.proofs.Floor.{Left, Whole, above-minus-one, negated-above-minus-one, floor-above, floor-far-above, floor-below-left, floor-below-whole, floor-far-below}
+use Rattle.doubles.proofs.Floor.{Above, floor-above, Below, below, Left, Whole, floor-below-left, floor-below-whole}
 use Rattle.doubles.proofs.far_floor.Statement.{statement}
 use Rattle.doubles.proofs.far_floor.Tie as tie
 
@@ -14,78 +12,59 @@ use Rattle.doubles.proofs.far_floor.Tie as tie
 held : (c : tie.Start) → T (fits binary64 (c .args .w))
 held c = subst T (sym (c .good .0 .1)) tt
 
-left : (c : tie.Then3) → Left (c .before .before .before .before .before .args .w) (c .before .before .truncating-f64-to-u64 .result)
+left : (c : tie.Then2) → Left (c .before .before .before .before .args .w) (c .before .before .truncating-f64-to-u64 .result)
 unfolding ofBits
 left c =
-    floor-below-left (c .before .before .before .before .before .args .w) (c .before .before .truncating-f64-to-u64 .result) (c .before .nearest-u64-to-f64 .result)
-    (held (c .before .before .before .before .before))
-    (c .before .before .before .before .if1 .taken)
-    (c .before .before .before .if2 .taken)
+    let s = c .before .before .before .before in
+    floor-below-left (s .args .w) (c .before .before .truncating-f64-to-u64 .result) (c .before .nearest-u64-to-f64 .result) (held s) (s .pre)
+    (c .before .before .before .if1 .taken)
     (c .before .before .truncating-f64-to-u64 .ensures)
     (c .before .nearest-u64-to-f64 .ensures)
-    (c .if3 .taken)
+    (c .if2 .taken)
 
-whole : (c : tie.Else3) → Whole (c .before .before .before .before .before .args .w) (c .before .before .truncating-f64-to-u64 .result)
+whole : (c : tie.Else2) → Whole (c .before .before .before .before .args .w) (c .before .before .truncating-f64-to-u64 .result)
 unfolding ofBits
 whole c =
-    floor-below-whole (c .before .before .before .before .before .args .w) (c .before .before .truncating-f64-to-u64 .result) (c .before .nearest-u64-to-f64 .result)
-    (held (c .before .before .before .before .before))
-    (c .before .before .before .before .if1 .taken)
-    (c .before .before .before .if2 .taken)
+    let s = c .before .before .before .before in
+    floor-below-whole (s .args .w) (c .before .before .truncating-f64-to-u64 .result) (c .before .nearest-u64-to-f64 .result) (held s) (s .pre)
+    (c .before .before .before .if1 .taken)
     (c .before .before .truncating-f64-to-u64 .ensures)
     (c .before .nearest-u64-to-f64 .ensures)
-    (c .if3 .left)
+    (c .if2 .left)
+
+above : (c : tie.Else1) → Above (c .before .args .w)
+unfolding ofBits
+above c = floor-above (c .before .args .w) (held (c .before)) (c .before .pre) (c .if1 .left)
 
 truncating-f64-to-u64-requires : tie.Need-truncating-f64-to-u64-requires
 unfolding ofBits
-truncating-f64-to-u64-requires c κs = (negated-above-minus-one (c .before .before .args .w) (c .before .if1 .taken), subst T (sym (c .if2 .taken)) tt)
+truncating-f64-to-u64-requires c κs =
+    let b : Below (c .before .args .w) = below (c .before .args .w) (held (c .before)) (c .before .pre) (c .if1 .taken) in
+    (b .low, b .high)
 
 nearest-u64-to-f64-requires : tie.Need-nearest-u64-to-f64-requires
 nearest-u64-to-f64-requires c κs = search needs
 
-add-negated : tie.Need-add-negated
-add-negated c = record { fits = left c .room }
+add-result : tie.Need-add-result
+add-result c = omega (arith, left c .room)
 
-negated-requires : tie.Need-negated-requires
-negated-requires c κs = search needs
+sub-result : tie.Need-sub-result
+sub-result c = omega (arith, left c .room)
 
-negated-requires-2 : tie.Need-negated-requires-2
-negated-requires-2 c κs = whole c .some
-
-negated-requires-3 : tie.Need-negated-requires-3
-negated-requires-3 c κs = search needs
+sub-result-2 : tie.Need-sub-result-2
+sub-result-2 c = omega (arith, whole c .room)
 
 truncating-f64-to-u64-requires-2 : tie.Need-truncating-f64-to-u64-requires-2
-unfolding ofBits
-truncating-f64-to-u64-requires-2 c κs = (above-minus-one (c .before .before .args .w) (c .before .before .pre) (c .before .if1 .left), subst T (sym (c .if4 .taken)) tt)
-
-reduced-requires : tie.Need-reduced-requires
-reduced-requires c κs = search needs
-
-reduced-requires-2 : tie.Need-reduced-requires-2
-reduced-requires-2 c κs = search needs
+truncating-f64-to-u64-requires-2 c κs = (above c .low, above c .high)
 
 returns : tie.Need-returns
-returns c = c .negated .ensures ∙ left (c .before) .is
+returns c = left c .is
 
 returns-2 : tie.Need-returns-2
-returns-2 c = c .negated2 .ensures ∙ whole (c .before) .is
+returns-2 c = whole c .is
 
 returns-3 : tie.Need-returns-3
-unfolding ofBits
-returns-3 c = c .negated3 .ensures ∙ floor-far-below (c .before .before .before .args .w) (c .before .before .if1 .taken) (c .before .if2 .left)
-
-returns-4 : tie.Need-returns-4
-unfolding ofBits
-returns-4 c =
-    let at-start = c .before .before .before .before in
-    c .reduced .ensures ∙ ap (λ (n : ℕ). n % p64) (c .before .truncating-f64-to-u642 .ensures) ∙ floor-above (at-start .args .w) (at-start .pre) (c .before .before .before .if1 .left)
-
-returns-5 : tie.Need-returns-5
-unfolding ofBits
-returns-5 c =
-    let at-start = c .before .before .before in
-    c .reduced2 .ensures ∙ floor-far-above (at-start .args .w) (at-start .pre) (c .before .before .if1 .left) (c .before .if4 .left)
+returns-3 c = c .truncating-f64-to-u642 .ensures ∙ above (c .before) .is
 
 pub far-floor-spec : {M : Type 1} → statement M
 far-floor-spec =
@@ -93,15 +72,10 @@ far-floor-spec =
     (tie.spec
     truncating-f64-to-u64-requires
     nearest-u64-to-f64-requires
-    add-negated
-    negated-requires
-    negated-requires-2
-    negated-requires-3
+    add-result
+    sub-result
+    sub-result-2
     truncating-f64-to-u64-requires-2
-    reduced-requires
-    reduced-requires-2
     returns
     returns-2
-    returns-3
-    returns-4
-    returns-5)
+    returns-3)

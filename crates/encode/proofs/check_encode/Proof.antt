@@ -1,5 +1,6 @@
 -- `encode::check_encode` meets its contract. Assumes nothing.
 use mathlib.Core.Path.{_≡_, sym, ap, _∙_}
+use Prim.Native.Nat.{ℕ}
 use native.Mathlib.Omega.{arith}
 use lib.ListN.{length}
 use Rattle.rules.specs.declared.Answer.{Answer}
@@ -7,10 +8,11 @@ use Rattle.rules.specs.Rules.{accepted, first}
 use Rattle.pine.specs.declared.record.Pine.{Pine}
 use Rattle.pine.specs.Param.{Field64, paramAnswer}
 use Rattle.pine.specs.Record.{pineOf, streamLen}
+use Rattle.doubles.specs.Doubles.{floorLimit64}
 use Rattle.rows.specs.Rows.{rowRule}
 use Rattle.pine.proofs.Limits.{param-accepted}
-use Rattle.flp.specs.Encode.{gradientLenRule}
-use Rattle.encode.proofs.Encoding.{early-stopped, early-answer}
+use Rattle.flp.specs.Encode.{coordinatesRule, gradientLenRule}
+use Rattle.encode.proofs.Encoding.{early-stopped, early-answer, scale-is, fraction-is}
 use Rattle.encode.proofs.check_encode.Statement.{statement}
 use Rattle.encode.proofs.check_encode.Tie as tie
 
@@ -42,7 +44,7 @@ check-len-requires-3 : tie.Need-check-len-requires-3
 check-len-requires-3 c κs = omega arith
 
 check-coordinates-requires : tie.Need-check-coordinates-requires
-check-coordinates-requires c κs = omega arith
+check-coordinates-requires c κs = scale-is _ _ (c .before .before .before .before .new .ensures)
 
 check-gradient-len-requires : tie.Need-check-gradient-len-requires
 check-gradient-len-requires c κs = omega arith
@@ -70,7 +72,7 @@ returns-2 c =
     (c .before .before .before .before .before .before .before .before .check-len .ensures ∙ ap (rowRule 2 (length (s .args .stream .now))) (c .before .before .before .before .before .before .before .before .before .stream-len .ensures ∙ ap (λ (r : Pine). streamLen (r .«num_wr_tests») (r .dimension)) (n .new .ensures)))
     (c .before .before .before .before .before .before .before .check-len2 .ensures ∙ ap (λ (r : Pine). rowRule 3 (length (s .args .measurement .now)) (r .«encoded_input_len»)) (n .new .ensures))
     (c .before .before .before .before .before .before .check-len3 .ensures ∙ ap (λ (r : Pine). rowRule 4 (length (s .args .results .now)) (r .«num_wr_tests»)) (n .new .ensures))
-    (c .before .before .before .before .before .check-coordinates .ensures)
+    (c .before .before .before .before .before .check-coordinates .ensures ∙ ap (λ (f : ℕ). coordinatesRule floorLimit64 f 0 (s .args .gradient .now)) (fraction-is _ _ (n .new .ensures)))
     (c .before .before .before .before .check-gradient-len .ensures ∙ ap (λ (r : Pine). gradientLenRule (length (s .args .gradient .now)) (r .dimension)) (n .new .ensures))
 
 pub check-encode-spec : {M : Type 1} → statement M

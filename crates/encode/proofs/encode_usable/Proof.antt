@@ -1,13 +1,16 @@
 -- `encode::encode_usable` meets its contract. Assumes nothing.
 use borrow.Author.Needs.{needs}
-use mathlib.Core.Path.{ap, _∙_}
+use mathlib.Core.Path.{sym, ap, _∙_, subst}
+use Prim.Native.Nat.{ℕ}
 use native.Mathlib.Omega.{arith}
 use Rattle.field64.specs.Field.{p64}
 use lib.ListN.{length}
+use Rattle.doubles.specs.Doubles.{floorLimit64}
 use Rattle.pine.specs.Param.{Field64}
 use Rattle.pine.proofs.Sizes.{scale-is}
+use Rattle.measurement.specs.Parts.{Usable}
 use Rattle.flp.proofs.Tests.{results-below}
-use Rattle.encode.proofs.Encoding.{ready, room, rest-long, late-refused, done, bound-is, bounds-fit}
+use Rattle.encode.proofs.Encoding.{ready, room, rest-long, late-refused, done, fraction-is, bound-is, bounds-fit}
 use Rattle.encode.proofs.encode_usable.Statement.{statement}
 use Rattle.encode.proofs.encode_usable.Tie as tie
 
@@ -22,7 +25,8 @@ add-per c = omega arith
 norm-and-tests-requires : tie.Need-norm-and-tests-requires
 norm-and-tests-requires c κs =
     let s = c .before .before .before .before .before .before .before in
-    (ready Field64 (s .args .param) (s .args .gradient .now) (s .args .stream .now) (s .args .measurement .now) (s .args .results .now) (s .pre .0) .usable, (scale-is (s .args .param) _ (c .before .new .ensures), room Field64 (s .args .param) (s .args .gradient .now) (s .args .stream .now) (s .args .measurement .now) (s .args .results .now) (s .pre .0) (length (s .args .found .now)) (s .pre .1)))
+    let h = ready Field64 (s .args .param) (s .args .gradient .now) (s .args .stream .now) (s .args .measurement .now) (s .args .results .now) (s .pre .0) in
+    (subst (λ (f : ℕ). Usable floorLimit64 f (s .args .gradient .now)) (sym (fraction-is (s .args .param) _ (c .before .new .ensures))) (h .usable), (scale-is (s .args .param) _ (c .before .new .ensures), room Field64 (s .args .param) (s .args .gradient .now) (s .args .stream .now) (s .args .measurement .now) (s .args .results .now) (s .pre .0) (length (s .args .found .now)) (s .pre .1)))
 
 wr-test-bound-requires : tie.Need-wr-test-bound-requires
 wr-test-bound-requires c κs = search needs
@@ -50,7 +54,7 @@ write-measurement-requires c κs =
     let e = c .before .before .before .before .before .before .before .before .before .before .before .new .ensures in
     let h = ready Field64 (s .args .param) (s .args .gradient .now) (s .args .stream .now) (s .args .measurement .now) (s .args .results .now) (s .pre .0) in
     let b = bounds-fit (s .args .param) _ e (h .inputs) in
-    (h .usable, (scale-is (s .args .param) _ e, (rest-long Field64 (s .args .param) (s .args .gradient .now) (s .args .stream .now) (s .args .measurement .now) (s .args .results .now) (s .pre .0) _ (t .kept .1 .1 .1 .1 .1 .0 ∙ s .pre .1) _ e (bound-is (s .args .param) _ e (h .inputs)), ((results-below p64 (omega arith) _ _ _ _ _ (t .ensures .1), (b .1 .0, b .0)), (t .ensures .0 .0, b .1 .1)))))
+    (subst (λ (f : ℕ). Usable floorLimit64 f (s .args .gradient .now)) (sym (fraction-is (s .args .param) _ e)) (h .usable), (scale-is (s .args .param) _ e, (rest-long Field64 (s .args .param) (s .args .gradient .now) (s .args .stream .now) (s .args .measurement .now) (s .args .results .now) (s .pre .0) _ (t .kept .1 .1 .1 .1 .1 .0 ∙ s .pre .1) _ e (bound-is (s .args .param) _ e (h .inputs)), ((results-below p64 (omega arith) _ _ _ _ _ (t .ensures .1), (b .1 .0, b .0)), (t .ensures .0 .0, b .1 .1)))))
 
 copy-row-requires : tie.Need-copy-row-requires
 copy-row-requires c κs = omega arith
