@@ -1,7 +1,7 @@
 -- The floor of a double below 2 ^ 50 in size, with no test of its exponent. The sum y of w and M = 3 * 2 ^ 51 lies where doubles are whole numbers, one after the other. So y is the floor of w + M, or one more,
 -- y - M is exact, and w < y - M says which. And y's bit pattern counts on with y. Assumes nothing.
 use mathlib.Core.Path.{_≡_, refl, sym, ap, _∙_, subst}
-use mathlib.Core.Bool.{Bool, true, false, not, cond, false≢true, true≢false}
+use mathlib.Core.Bool.{Bool, true, false, not, _&&_, cond, false≢true, true≢false}
 use Prim.Native.Nat.{ℕ, zero, suc, _+_, _-_, _*_, _/_, _%_, _^_, _≤_, _<_, compare, Ordering}
 use native.Mathlib.Nat.{le-trans, le-of-eq, le-antisymm, lt-of-lt-of-le, lt-of-le-of-lt, lt-of-not-le, not-le-of-lt, mul-one, zero-mul, one-mul, zero-add, sub-zero, zero-div, add-mod-right, mul-comm, mul-right-comm, mul-pos, add-mul, mul-le-mul-right, mul-lt-mul-of-pos-right, le-of-mul-le-mul-right, lt-of-mul-lt-mul-right, le-div-iff-mul-le, div-lt-iff-lt-mul, div-mul-le-self, div-eq-of-lt-le, lt-div-mul-add, mul-div-cancel, mul-div-mul-right, add-mul-div-right, eq-of-mul-eq-mul-right, mod-eq-of-lt, zero-lt-suc}
 use native.Mathlib.Omega.{arith}
@@ -12,14 +12,14 @@ use lib.Pow.{pow-add, pow-pos, pow-lt, pow-mono}
 use lib.Ieee.{Float, nan, inf, fin, Format, binary32, binary64, prec, emax, low, up, down, hid, size, nearest, units, round, neg, add, sub, sum, lt, isNan, toBits}
 use lib.Ieee.Bits.{is-true}
 use lib.Ieee.Digits.{size-lt, size-le}
-use lib.Ieee.Fits.{core, round-is, nearest-le, down-pos}
+use lib.Ieee.Fits.{core, round-is, nearest-le, down-pos, and-l, and-r}
 use lib.Ieee.Nearest.{nearest-ge}
 use lib.Ieee.Exact.{HasValue, units-val}
 use lib.Ieee.Back.{round-whole}
 use lib.Ieee.Scale.{round-same}
 use Rattle.field64.specs.Field.{p64, subMod}
 use Rattle.doubles.specs.Doubles.{signed, floorDiv, modP}
-use Rattle.doubles.specs.Steps.{floorMod}
+use Rattle.doubles.specs.Steps.{floorMod, near}
 use Rattle.doubles.proofs.Floor.{alike, ltb-scale, yes, no, floor-negative}
 
 -- 3 * 2 ^ 51
@@ -363,11 +363,16 @@ near-size s m e h =
     next : (f q : ℕ) → f < q → q ≤ suc f → base + q ≡ base + f + 1
     next f q h g = omega arith
 
--- below 2 ^ 50 in size
-pub near : (w : Float) → T (lt (fin true 1 (pos 50)) w) → T (lt w (fin false 1 (pos 50))) → Near w
+between : (w : Float) → T (lt (fin true 1 (pos 50)) w) → T (lt w (fin false 1 (pos 50))) → Near w
 unfolding lt
-near nan h g = absurd h
-near (inf true) h g = absurd h
-near (inf false) h g = absurd g
-near (fin false m e) h g = near-size false m e (size-below (m * up e) (down e) (ltb→lt (m * up e * 1) (1 * 2 ^ 50 * down e) g))
-near (fin true m e) h g = near-size true m e (size-below (m * up e) (down e) (ltb→lt (m * up e * 1) (1 * 2 ^ 50 * down e) h))
+between nan h g = absurd h
+between (inf true) h g = absurd h
+between (inf false) h g = absurd g
+between (fin false m e) h g = near-size false m e (size-below (m * up e) (down e) (ltb→lt (m * up e * 1) (1 * 2 ^ 50 * down e) g))
+between (fin true m e) h g = near-size true m e (size-below (m * up e) (down e) (ltb→lt (m * up e * 1) (1 * 2 ^ 50 * down e) h))
+
+pub known : (w : Float) → near w ≡ true → Near w
+unfolding near
+known w h =
+    let t : T (lt (fin true 1 (pos 50)) w && lt w (fin false 1 (pos 50))) = yes h in
+    between w (and-l (lt (fin true 1 (pos 50)) w) (lt w (fin false 1 (pos 50))) t) (and-r (lt (fin true 1 (pos 50)) w) (lt w (fin false 1 (pos 50))) t)

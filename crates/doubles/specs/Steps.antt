@@ -1,6 +1,6 @@
 -- What the inner functions of `doubles` give. Assumes nothing.
 use Prim.Native.Nat.{ℕ, _*_}
-use mathlib.Core.Bool.{Bool, false, not, _&&_, cond}
+use mathlib.Core.Bool.{Bool, true, false, not, _&&_, cond}
 use lib.IntN.{pos, negsuc}
 use lib.Ieee.{Float, nan, inf, fin, up, down, neg, lt}
 use Rattle.field64.specs.Field.{p64}
@@ -17,6 +17,10 @@ unfoldable pub within : Float → Bool
 within nan = false
 within (inf s) = false
 within (fin s m e) = not (beyond floorLimit64 (floorDiv (signed s (m * up e)) (down e)))
+
+-- below 2 ^ 50 in size
+unfoldable pub near : Float → Bool
+near w = lt (fin true 1 (pos 50)) w && lt w (fin false 1 (pos 50))
 
 -- a double's size; -0 stays as it is
 unfoldable pub sizeOf : Float → Float

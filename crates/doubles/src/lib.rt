@@ -6,12 +6,9 @@ use rules::Answer;
 ghost use mathlib.Core.Path.{_≡_};
 ghost use mathlib.Core.Bool.{true, false, not};
 ghost use Prim.Native.Nat.{_≤_, _<_};
-ghost use lib.Dec.{T};
-ghost use lib.IntN.{pos};
-ghost use lib.Ieee.{fin, lt};
 ghost use Rattle.field64.specs.Field.{p64};
 ghost use Rattle.doubles.specs.Doubles.{fracBitsRule, floorLimit64, power, unusable, coordinateRule, element, encoded, coordinateOf, decoded, decodedOf};
-ghost use Rattle.doubles.specs.Steps.{floorMod, within, sizeOf, normalSize};
+ghost use Rattle.doubles.specs.Steps.{floorMod, within, near, sizeOf, normalSize};
 
 // The largest frac_bits.
 const MAX_FRAC_BITS: u64 = 30;
@@ -38,6 +35,12 @@ pub struct Coordinate {
 pub struct Decoded {
     pub answer: Answer,
     pub value: f64,
+}
+
+// An element, or a sign that it was not worked out.
+pub struct Tried {
+    pub far: u64,
+    pub element: u64,
 }
 
 // Rule 4.
@@ -83,11 +86,22 @@ pub fn usable(x: f64) -> bool
     x == 0.0
 }
 
+// Whether w is below 2^50 in size.
+fn is_near(w: f64) -> bool
+    ensures { λ r. ⌜ r ≡ near w ⌝ }
+{
+    if -1125899906842624.0 < w {
+        w < 1125899906842624.0
+    } else {
+        false
+    }
+}
+
 // The floor of w, modulo p. From 2^52 to 2^53 the doubles are the whole numbers, and their bit
 // patterns count on with them. So w + MIDDLE is the floor of w and MIDDLE, or one more; taking MIDDLE
 // off again is exact, and shows which.
 fn near_floor(w: f64) -> u64
-    requires { ⌜ T (lt (fin true 1 (pos 50)) w) ⌝ ∗ ⌜ T (lt w (fin false 1 (pos 50))) ⌝ }
+    requires { ⌜ near w ≡ true ⌝ }
     ensures { λ r. ⌜ r ≡ floorMod w ⌝ }
 {
     let y = w + MIDDLE;
@@ -120,10 +134,8 @@ fn floor_to_field(w: f64) -> u64
     requires { ⌜ within w ≡ true ⌝ }
     ensures { λ r. ⌜ r ≡ floorMod w ⌝ }
 {
-    if -1125899906842624.0 < w {
-        if w < 1125899906842624.0 {
-            return near_floor(w);
-        }
+    if is_near(w) {
+        return near_floor(w);
     }
     far_floor(w)
 }
@@ -156,12 +168,53 @@ pub fn check_coordinate(x: f64, scale: f64, frac_bits: u64) -> Answer
     Answer::accepted()
 }
 
+// 0 for an x at the scale 2^frac_bits that rules 8 and 17 leave, or else 1: in this form a loop over a
+// row runs on vectors.
+pub fn refused(x: f64, scale: f64, frac_bits: u64) -> u64
+    requires { ⌜ scale ≡ power «frac_bits» ⌝ }
+    ensures { λ r. ⌜ (r ≤ 1) × (r ≡ 0 → coordinateRule floorLimit64 x «frac_bits» .number ≡ 0) ⌝ }
+{
+    if usable(x) {
+        if within_limit(x * scale) {
+            return 0;
+        }
+    }
+    1
+}
+
 // The element of x at the scale 2^frac_bits.
 pub fn element_of(x: f64, scale: f64, frac_bits: u64) -> u64
     requires { ⌜ coordinateRule floorLimit64 x «frac_bits» .number ≡ 0 ⌝ ∗ ⌜ scale ≡ power «frac_bits» ⌝ }
     ensures { λ r. ⌜ r ≡ element p64 x «frac_bits» ⌝ }
 {
     floor_to_field(x * scale)
+}
+
+// 1 just where w is not below 2^50 in size.
+fn far_flag(w: f64) -> u64
+    ensures { λ r. ⌜ (r ≤ 1) × (r ≡ 0 → near w ≡ true) ⌝ }
+{
+    if is_near(w) { 0 } else { 1 }
+}
+
+// w where it is below 2^50 in size, or else 0.
+fn near_or_zero(w: f64) -> f64
+    ensures { λ r. ⌜ (near r ≡ true) × (near w ≡ true → r ≡ w) ⌝ }
+{
+    if is_near(w) { w } else { 0.0 }
+}
+
+// The same as element_of where far is 0, as of all coordinates whose product by the scale is below
+// 2^50 in size. In this form a loop over a row runs on vectors.
+pub fn near_element(x: f64, scale: f64, frac_bits: u64) -> Tried
+    requires { ⌜ coordinateRule floorLimit64 x «frac_bits» .number ≡ 0 ⌝ ∗ ⌜ scale ≡ power «frac_bits» ⌝ }
+    ensures { λ r. ⌜ (r .far ≤ 1) × (r .far ≡ 0 → r .element ≡ element p64 x «frac_bits») ⌝ }
+{
+    let w = x * scale;
+    Tried {
+        far: far_flag(w),
+        element: near_floor(near_or_zero(w)),
+    }
 }
 
 // x at the scale 2^frac_bits, by rules 8 and 17.

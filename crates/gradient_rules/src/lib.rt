@@ -3,13 +3,13 @@
 use rules::Answer;
 ghost use mathlib.Core.Path.{_≡_};
 ghost use Prim.Native.Nat.{_≤_};
-ghost use Rattle.rules.specs.Rules.{first};
+ghost use Rattle.rules.specs.Rules.{accepted, first};
 ghost use Rattle.field64.specs.Field.{p64};
 ghost use Rattle.doubles.specs.Doubles.{floorLimit64, power};
 ghost use Rattle.flp.specs.Encode.{coordinatesRule, gradientLenRule, sqNormRule, inRange, rangeRule};
 
-// Rules 8 and 17: the first coordinate that either refuses, in one pass.
-pub fn check_coordinates(gradient: &[f64], scale: f64, frac_bits: u64) -> Answer
+// Rules 8 and 17: the first coordinate that either refuses.
+fn search(gradient: &[f64], scale: f64, frac_bits: u64) -> Answer
     requires { ⌜ scale ≡ power «frac_bits» ⌝ }
     ensures { λ r. ⌜ r ≡ coordinatesRule floorLimit64 «frac_bits» 0 (now (gradient .entry)) ⌝ }
 {
@@ -25,6 +25,31 @@ pub fn check_coordinates(gradient: &[f64], scale: f64, frac_bits: u64) -> Answer
         i += 1;
     }
     Answer::accepted()
+}
+
+// How many coordinates rules 8 and 17 refuse, with no branch on one.
+fn count_refused(gradient: &[f64], scale: f64, frac_bits: u64) -> u64
+    requires { ⌜ scale ≡ power «frac_bits» ⌝ }
+    ensures { λ r. ⌜ (r ≡ 0 → accepted ≡ coordinatesRule floorLimit64 «frac_bits» 0 (now (gradient .entry))) ⌝ }
+{
+    let mut count = 0;
+    let mut i = 0;
+    while i < gradient.len() {
+        count += doubles::refused(gradient[i], scale, frac_bits);
+        i += 1;
+    }
+    count
+}
+
+// Rules 8 and 17: only a gradient with a coordinate that is refused is searched.
+pub fn check_coordinates(gradient: &[f64], scale: f64, frac_bits: u64) -> Answer
+    requires { ⌜ scale ≡ power «frac_bits» ⌝ }
+    ensures { λ r. ⌜ r ≡ coordinatesRule floorLimit64 «frac_bits» 0 (now (gradient .entry)) ⌝ }
+{
+    if count_refused(gradient, scale, frac_bits) == 0 {
+        return Answer::accepted();
+    }
+    search(gradient, scale, frac_bits)
 }
 
 // Rule 9.

@@ -86,7 +86,7 @@ wrong-norm w = omega (arith, w .norm)
 -- ---- triples counted, over a field of 5 numbers
 
 abbrev Field5 : Field
-Field5 = record { p = 5; normLimit = 1 }
+Field5 = record { p = 5; floorLimit = 2; normLimit = 1 }
 
 abbrev zeros : (T K : ℕ) (full : List ℕ) → ℕ
 zeros T K full = triples 5 (looksTrue Field5 (inputs T K) full)

@@ -12,7 +12,8 @@ use Rattle.doubles.specs.Doubles.{floorLimit64}
 use Rattle.rows.specs.Rows.{rowRule}
 use Rattle.pine.proofs.Limits.{param-accepted}
 use Rattle.flp.specs.Encode.{coordinatesRule, gradientLenRule}
-use Rattle.encode.proofs.Encoding.{early-stopped, early-answer, scale-is, fraction-is}
+use Rattle.pine.proofs.Sizes.{scale-is}
+use Rattle.encode.proofs.Encoding.{early-stopped, early-answer, fraction-is}
 use Rattle.encode.proofs.check_encode.Statement.{statement}
 use Rattle.encode.proofs.check_encode.Tie as tie
 
