@@ -4,18 +4,18 @@ use mathlib.Core.Bool.{Bool, true, false, not, _&&_, _||_, Bool·beq, cond, true
 use Prim.Native.Nat.{ℕ, zero, suc, _+_, _*_, _^_, _≤_, _<_}
 use native.Mathlib.Nat.{lt-irrefl, zero-mul, one-mul, mul-pos, zero-lt-suc}
 use native.Mathlib.Omega.{arith}
-use lib.IntN.{ℤ, pos}
+use lib.IntN.{ℤ, pos, negsuc}
 use lib.Dec.{T, ltb, eqb, ltb→lt, lt→ltb, eqb→eq}
 use lib.Ieee.{Float, nan, inf, fin, binary64, up, down, neg, mul, lt, eq, fits}
 use lib.Ieee.Bits.{is-true}
 use lib.Ieee.Fits.{up-pos, and-l}
-use borrow.Author.Tests.{eq-eqb, ne-eqb, le-ltb}
+use borrow.Author.Tests.{eq-eqb, ne-eqb, le-ltb, not-true}
 use Rattle.rules.specs.declared.Answer.{Answer}
 use Rattle.rules.specs.Rules.{answer, accepted, refuse, first}
 use Rattle.rules.proofs.Chain.{both, not-so}
 use Rattle.field64.specs.Field.{p64}
 use Rattle.doubles.specs.Doubles.{beyond, floorLimit64, unusable, floorOf, coordinateRule, element, coordinate, encoded, coordinateOf, power}
-use Rattle.doubles.specs.Steps.{sizeOf, normalSize, floorMod, within}
+use Rattle.doubles.specs.Steps.{sizeOf, normalSize, small, floorMod, within}
 use Rattle.doubles.proofs.Laws.{product-within, product-floor}
 
 abbrev usable : Float → Bool
@@ -127,6 +127,42 @@ unfolding unusable
 usable-within nan f t h = absurd (true≢false h)
 usable-within (inf s) f t h = absurd (true≢false h)
 usable-within (fin s m e) f t h = product-within s m e f t
+
+-- the same by fewer tests: a product within the limit is that of a finite double
+finite-size : (s : Bool) (m : ℕ) (e : ℤ) → lt (sizeOf (fin s m e)) (inf false) ≡ true
+unfolding sizeOf neg
+finite-size s m e = go (lt (fin s m e) (fin false 0 (pos 0)))
+  where
+    go : (t : Bool) → lt (cond t (fin (not s) m e) (fin s m e)) (inf false) ≡ true
+    go true = unfold lt in refl
+    go false = unfold lt in refl
+
+not-small : (x : Float) → small x ≡ false → lt (sizeOf x) (inf false) ≡ true → unusable x ≡ false
+unfolding small
+not-small x h i = go (lt (sizeOf x) (fin false 1 (negsuc 1021))) (eq x (fin false 0 (pos 0))) refl refl h
+  where
+    go : (t z : Bool) → lt (sizeOf x) (fin false 1 (negsuc 1021)) ≡ t → eq x (fin false 0 (pos 0)) ≡ z → (t && not z) ≡ false → unusable x ≡ false
+    go true true a b g = not-true _ (sym (usable-zero x b))
+    go true false a b g = absurd (true≢false g)
+    go false z a b g = not-true _ (sym (usable-normal x (unfold normalSize in (ap (λ (t : Bool). not t && lt (sizeOf x) (inf false)) a ∙ i))))
+
+-- what is not small
+pub zero-not-small : (x : Float) → eq x (fin false 0 (pos 0)) ≡ true → small x ≡ false
+unfolding small
+zero-not-small x h = ap (λ (t : Bool). lt (sizeOf x) (fin false 1 (negsuc 1021)) && not t) h ∙ and-false (lt (sizeOf x) (fin false 1 (negsuc 1021)))
+  where
+    and-false : (t : Bool) → (t && false) ≡ false
+    and-false true = refl
+    and-false false = refl
+
+pub large-not-small : (x : Float) → lt (sizeOf x) (fin false 1 (negsuc 1021)) ≡ false → small x ≡ false
+unfolding small
+large-not-small x h = ap (λ (t : Bool). t && not (eq x (fin false 0 (pos 0)))) h
+
+pub usable-unless-small : (x : Float) (f : ℕ) → small x ≡ false → within (mul binary64 x (power f)) ≡ true → unusable x ≡ false
+usable-unless-small nan f h g = absurd (false≢true (unfold mul within in g))
+usable-unless-small (inf s) f h g = absurd (false≢true (unfold mul within in g))
+usable-unless-small (fin s m e) f h g = not-small (fin s m e) h (finite-size s m e)
 
 -- a coordinate that neither refuses
 pub record Taken (x : Float) (f : ℕ) : Type 0 where

@@ -2,7 +2,7 @@
 use Prim.Native.Nat.{ℕ, _*_}
 use mathlib.Core.Bool.{Bool, true, false, not, _&&_, cond}
 use lib.IntN.{pos, negsuc}
-use lib.Ieee.{Float, nan, inf, fin, up, down, neg, lt}
+use lib.Ieee.{Float, nan, inf, fin, up, down, neg, lt, eq}
 use Rattle.field64.specs.Field.{p64}
 use Rattle.doubles.specs.Doubles.{signed, floorDiv, beyond, modP, floorLimit64}
 
@@ -25,6 +25,10 @@ near w = lt (fin true 1 (pos 50)) w && lt w (fin false 1 (pos 50))
 -- a double's size; -0 stays as it is
 unfoldable pub sizeOf : Float → Float
 sizeOf x = cond (lt x (fin false 0 (pos 0))) (neg x) x
+
+-- below 2 ^ -1022 in size, and not zero
+unfoldable pub small : Float → Bool
+small x = lt (sizeOf x) (fin false 1 (negsuc 1021)) && not (eq x (fin false 0 (pos 0)))
 
 -- 2 ^ -1022 at least, and finite
 unfoldable pub normalSize : Float → Bool

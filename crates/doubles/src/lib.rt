@@ -8,7 +8,7 @@ ghost use mathlib.Core.Bool.{true, false, not};
 ghost use Prim.Native.Nat.{_≤_, _<_};
 ghost use Rattle.field64.specs.Field.{p64};
 ghost use Rattle.doubles.specs.Doubles.{fracBitsRule, floorLimit64, power, unusable, coordinateRule, element, encoded, coordinateOf, decoded, decodedOf};
-ghost use Rattle.doubles.specs.Steps.{floorMod, within, near, sizeOf, normalSize};
+ghost use Rattle.doubles.specs.Steps.{floorMod, within, near, sizeOf, normalSize, small};
 
 // The largest frac_bits.
 const MAX_FRAC_BITS: u64 = 30;
@@ -168,18 +168,26 @@ pub fn check_coordinate(x: f64, scale: f64, frac_bits: u64) -> Answer
     Answer::accepted()
 }
 
+// 1 where x is subnormal.
+fn small_flag(x: f64) -> u64
+    ensures { λ r. ⌜ (r ≤ 1) × (r ≡ 0 → small x ≡ false) ⌝ }
+{
+    let nonzero = if x == 0.0 { 0 } else { 1 };
+    if size(x) < 2.2250738585072014e-308 {
+        nonzero
+    } else {
+        0
+    }
+}
+
 // 0 for an x at the scale 2^frac_bits that rules 8 and 17 leave, or else 1: in this form a loop over a
 // row runs on vectors.
 pub fn refused(x: f64, scale: f64, frac_bits: u64) -> u64
     requires { ⌜ scale ≡ power «frac_bits» ⌝ }
     ensures { λ r. ⌜ (r ≤ 1) × (r ≡ 0 → coordinateRule floorLimit64 x «frac_bits» .number ≡ 0) ⌝ }
 {
-    if usable(x) {
-        if within_limit(x * scale) {
-            return 0;
-        }
-    }
-    1
+    let small = small_flag(x);
+    if within_limit(x * scale) { small } else { 1 }
 }
 
 // The element of x at the scale 2^frac_bits.

@@ -1,5 +1,5 @@
 -- `doubles::within_limit` meets its contract. The limit is given in MIR by its bit pattern. Assumes nothing.
-use mathlib.Core.Path.{_≡_, sym, ap, _∙_, subst}
+use mathlib.Core.Path.{sym, ap, _∙_, subst}
 use mathlib.Core.Bool.{Bool, _&&_}
 use lib.Dec.{T}
 use lib.Ieee.{binary64, fits, ofBits, neg}
