@@ -11,7 +11,7 @@ use Rattle.doubles.specs.declared.Coordinate.{Coordinate}
 use Rattle.doubles.specs.declared.Decoded.{Decoded}
 use Rattle.field64.specs.Sums.{number}
 use Rattle.pine.specs.declared.PineParam.{PineParam}
-use Rattle.pine.specs.Param.{Field64}
+use Rattle.pine.specs.Param.{Field64, standard}
 use Rattle.pine.specs.Record.{wrTestBound}
 use Rattle.rows.specs.Outcome.{outcome}
 use Rattle.flp.specs.Encode.{encodeOutcome, encodeOf}
@@ -34,7 +34,7 @@ value b = record { answer = accepted; value = double b }
 
 -- f 0, and c = e = 1
 abbrev pub param : (n d T K : ℕ) → PineParam
-param n d T K = record { «norm_bound» = n; dimension = d; «frac_bits» = 0; «chunk_len» = 1; «chunk_len_sq_norm_equal» = 1; «num_wr_tests» = T; «num_wr_successes» = K }
+param n d T K = standard n d 0 1 1 T K
 
 -- 0.0, 1.0 and 4294967296.0
 abbrev pub none : Float

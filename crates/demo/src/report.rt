@@ -19,15 +19,7 @@ pub const INPUT_LEN: usize = 100;
 // Four coordinates with 6 fractional bits. norm_bound is that of a gradient times 2^6. Of the four
 // wraparound tests all must succeed.
 pub fn param() -> PineParam {
-    PineParam {
-        norm_bound: 400,
-        dimension: 4,
-        frac_bits: 6,
-        chunk_len: 8,
-        chunk_len_sq_norm_equal: 2,
-        num_wr_tests: 4,
-        num_wr_successes: 4,
-    }
+    PineParam::standard(400, 4, 6, 8, 2, 4, 4)
 }
 
 // The answer where a row is too short to hold its part.

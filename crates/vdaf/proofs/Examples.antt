@@ -8,13 +8,13 @@ use Rattle.rules.specs.Rules.{answer, accepted}
 use Rattle.field64.specs.Field.{p64}
 use Rattle.doubles.specs.Doubles.{plusZero, centred, decoded}
 use Rattle.pine.specs.declared.PineParam.{PineParam}
-use Rattle.pine.specs.Param.{Field64, paramRules, paramAnswer}
+use Rattle.pine.specs.Param.{Field64, paramRules, paramAnswer, standard}
 use Rattle.rows.specs.Outcome.{Outcome, outcome}
 use Rattle.vdaf.specs.Aggregates.{emptyAnswer, emptyOf, accumulateAnswer, accumulateOf, subtractOf, UnshardOutcome, unshardOutcome, decodedSums, unshardAnswer, unshardOf}
 
 -- the inputs with this dimension and these fractional bits; the others are the least
 abbrev inputs : (d f : ℕ) → PineParam
-inputs d f = record { «norm_bound» = 1; dimension = d; «frac_bits» = f; «chunk_len» = 1; «chunk_len_sq_norm_equal» = 1; «num_wr_tests» = 1; «num_wr_successes» = 1 }
+inputs d f = standard 1 d f 1 1 1 1
 
 -- ---- emptying: what the row held does not matter, its length does
 record Emptying : Type 0 where
