@@ -14,7 +14,7 @@ use Rattle.field64.specs.Sums.{evaluate}
 use Rattle.rows.specs.Outcome.{Outcome, outcome}
 use Rattle.flp.specs.Bits.{bits, groups}
 use Rattle.flp.specs.Tests.{pairs, weighed, weigh, testOf, testsOf, runTestsRules, runTestsOf}
-use Rattle.flp.specs.Encode.{elements, sqNorm, testBits, resultsOf, measurementOf, coordinatesRule, rangeRule, encodeOutcome, encodeRules, encodeAnswer, encodeOf}
+use Rattle.flp.specs.Encode.{elements, sqNorm, testBits, resultsOf, measurementOf, coordinatesRule, everyRule, enoughRule, rangeRule, countInRange, encodeOutcome, encodeRules, encodeAnswer, encodeOf}
 use Rattle.flp.specs.Circuits.{gradientPart, checkedPart, resultsPart, testParts, testNumber, successBit, normV, normU, termA, termN, testTerms, termW, termG, chunksTaken, validRules, validValue, validCalls, validOf, validEqualRules, validEqualValue, validEqualCalls, validEqualOf, partRules, partOf, gradientPartOf, checkedPartOf, resultsPartOf}
 
 abbrev double : ℕ → Float
@@ -65,7 +65,7 @@ pub record Rows : Type 0 where
   pub joint-element : validOf Field64 other 255 (replicate 50 0) (1 ∷ p64 ∷ 0 ∷ []) .answer ≡ answer 12 51
 
 pub rows : Rows
-unfolding encodeOf encodeRules measurementOf resultsOf coordinatesRule rangeRule elements sqNorm testBits bits evaluate groups pairs weighed weigh testOf testsOf halvings digits sqNormBound sqNormBits wrTestBound wrTestBits bitCheckedLen encodedInputLen element floorOf floorDiv modP unusable paramAnswer paramRules ofBits validOf validRules validValue validCalls gradientPart checkedPart resultsPart testParts testNumber successBit normV normU termA termN testTerms termW termG chunksTaken inverseFrom inputLen validEqualOf validEqualRules validEqualValue validEqualCalls
+unfolding encodeOf encodeRules measurementOf resultsOf coordinatesRule everyRule enoughRule rangeRule countInRange elements sqNorm testBits bits evaluate groups pairs weighed weigh testOf testsOf halvings digits sqNormBound sqNormBits wrTestBound wrTestBits bitCheckedLen encodedInputLen element floorOf floorDiv modP unusable paramAnswer paramRules ofBits validOf validRules validValue validCalls gradientPart checkedPart resultsPart testParts testNumber successBit normV normU termA termN testTerms termW termG chunksTaken inverseFrom inputLen validEqualOf validEqualRules validEqualValue validEqualCalls
 rows = record { six = refl; shares-1 = refl; shares-2 = refl; shares-3 = refl; shares-255 = refl; equal = refl; more-successes = refl; norm-0 = refl; dimension-0 = refl; fraction = refl; chunk = refl; tests = refl; short-stream = refl; short-measurement = refl; short-results = refl; not-a-number = refl; huge-first = refl; huge-second = refl; huge-scaled = refl; short-gradient = refl; second-test = refl; full-length = refl; joint-length = refl; no-share = refl; too-many = refl; joint-element = refl }
 
 -- ---- by fields: in contracts the name `encodeOutcome` stands on both sides, where nothing holds it to its sense
@@ -75,7 +75,7 @@ record Fields : Type 0 where
       ≡ record { answer = record { number = 0; place = 0 }; measurement = 0 ∷ 0 ∷ 1 ∷ 1 ∷ 1 ∷ 1 ∷ 1 ∷ 0 ∷ 1 ∷ []; results = 0 ∷ [] }
 
 fields : Fields
-unfolding encodeOf encodeRules measurementOf resultsOf coordinatesRule rangeRule elements sqNorm testBits bits evaluate groups pairs weighed weigh testOf testsOf halvings digits sqNormBound sqNormBits wrTestBound wrTestBits bitCheckedLen encodedInputLen element floorOf floorDiv modP unusable paramAnswer paramRules ofBits
+unfolding encodeOf encodeRules measurementOf resultsOf coordinatesRule everyRule enoughRule rangeRule countInRange elements sqNorm testBits bits evaluate groups pairs weighed weigh testOf testsOf halvings digits sqNormBound sqNormBits wrTestBound wrTestBits bitCheckedLen encodedInputLen element floorOf floorDiv modP unusable paramAnswer paramRules ofBits
 fields = record { refused = refl; taken = refl }
 
 -- ---- tests alone, and the parts of a vector

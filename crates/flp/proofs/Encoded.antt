@@ -6,7 +6,7 @@ use native.Mathlib.Nat.{lt-of-le-of-lt, le-of-eq, zero-add, mod-mod, zero-mod, m
 use native.Mathlib.Omega.{arith}
 use lib.ListN.{length, take, length-append}
 use lib.Seq.{take-at, drop-at, take-all}
-use Rattle.field64.specs.Field.{addMod, subMod}
+use Rattle.field64.specs.Field.{subMod}
 use Rattle.field64.specs.Sums.{number}
 use Rattle.field64.proofs.Modular.{sub-is}
 use Rattle.field64.proofs.Sums.{evaluate-below}
@@ -17,26 +17,25 @@ use Rattle.pine.proofs.Digits.{digits-above}
 use Rattle.pine.proofs.Sizes.{bound-positive, bits-power}
 use Rattle.rows.proofs.Elements.{below-append, below-more}
 use Rattle.flp.specs.Bits.{bits, groups}
-use Rattle.flp.specs.Encode.{sqNorm, testBits, resultsOf, measurementOf, rangeRule}
+use Rattle.flp.specs.Encode.{sqNorm, countInRange, written, testBits, resultsOf, measurementOf}
 use Rattle.flp.specs.Circuits.{gradientPart, checkedPart, resultsPart, testParts, normV, normU, validEqualValue, WellFormed}
 use Rattle.flp.proofs.Bits.{length-bits, bits-below, number-bits}
 use Rattle.flp.proofs.Tests.{length-tests, tests-below}
-use Rattle.flp.proofs.Circuits.{partsOf, test-bits-below, length-test-bits, groups-test-bits, termN-zero, test-terms-zero, termG-zero, in-range}
+use Rattle.flp.proofs.Circuits.{partsOf, test-bits-below, length-test-bits, groups-test-bits, termN-zero, test-terms-zero, termG-zero, written-below}
 
 bound-fits : (i : PineParam) (v : ℕ) → v ≤ sqNormBound i → v < 2 ^ sqNormBits i
 unfolding sqNormBits
 bound-fits i v h = lt-of-le-of-lt h (digits-above (sqNormBound i))
 
--- what rules 1 to 6, 8 to 11 and 17 leave of an encoding, its elements being xs
+-- what the rules leave of an encoding, its elements being xs
 pub record Sound (p : ℕ) (i : PineParam) (stream xs : List ℕ) : Type 0 where
   pub big : 1 < p
   pub room-norm : sqNormBound i < p
   pub room-test : 2 * wrTestBound i ≤ p
-  pub successes : i .«num_wr_successes» ≤ i .«num_wr_tests»
   pub long : length xs ≡ i .dimension
   pub below : Below p xs
   pub norm : sqNorm p xs ≤ sqNormBound i
-  pub range : rangeRule p (wrTestBound i) 0 (resultsOf p i stream xs) .number ≡ 0
+  pub enough : i .«num_wr_successes» ≤ countInRange p (wrTestBound i) (resultsOf p i stream xs)
 
 module _ (p : ℕ) (i : PineParam) (stream xs : List ℕ) (h : Sound p i stream xs) where
   v : ℕ
@@ -128,24 +127,24 @@ module _ (p : ℕ) (i : PineParam) (stream xs : List ℕ) (h : Sound p i stream 
   unfolding rs resultsOf
   results-below = tests-below p positive (bytesPerTest (i .dimension)) (i .«num_wr_tests») stream xs
 
-  shifted : Below (2 ^ wrTestBits i) (map (λ r. addMod p r (wrTestBound i - 1)) rs)
+  written-fits : Below (2 ^ wrTestBits i) (map (written p (wrTestBound i)) rs)
   unfolding rs
-  shifted =
+  written-fits =
       let b = wrTestBound i in
       let l : 2 * b ≤ 2 ^ wrTestBits i = le-of-eq (sym (bits-power i)) in
-      below-more (2 * b) (2 ^ wrTestBits i) l (map (λ r. addMod p r (b - 1)) rs) (in-range p b (h .room-test) (bound-positive i) 0 rs results-below (h .range))
+      below-more (2 * b) (2 ^ wrTestBits i) l (map (written p b) rs) (written-below p b (h .room-test) (bound-positive i) rs results-below)
 
   checked-below : Below 2 checked
   unfolding checked tb
   checked-below = below-append 2 (bits (sqNormBits i) v) _ (bits-below _ _) (below-append 2 (bits (sqNormBits i) u) _ (bits-below _ _) (test-bits-below p _ _ _ rs))
 
   pub well-formed : WellFormed p i fullOf
-  unfolding v
+  unfolding v rs
   well-formed = record {
     bits = rw checked-is checked-below;
     norm = rw (normV-is, normU-is) (termN-zero p (h .big) (sqNormBound i) v (h .norm));
-    tests = rw (parts-is, results-is) (test-terms-zero p (h .big) (wrTestBound i) (wrTestBits i) (i .«num_wr_successes») rs shifted);
-    successes = rw parts-is (termG-zero p (h .big) (wrTestBits i) (wrTestBound i) (i .«num_wr_successes») rs (omega (arith, length-results, h .successes)));
+    tests = rw (parts-is, results-is) (test-terms-zero p (h .big) (wrTestBound i) (wrTestBits i) (i .«num_wr_successes») rs written-fits);
+    successes = rw parts-is (termG-zero p (h .big) (wrTestBits i) (wrTestBound i) (i .«num_wr_successes») rs (h .enough));
   }
 
   pub norm-equal : validEqualValue p i fullOf ≡ 0

@@ -1,6 +1,6 @@
--- Encoding a gradient (document 01, "The gradient and norm bits", "The test bits"). Assumes nothing.
+-- Encoding a gradient (document 01, "The gradient and norm bits", "The test bits"; document 02, e and i). Assumes nothing.
 use Prim.Native.Nat.{ℕ, zero, suc, _+_, _-_}
-use mathlib.Core.Bool.{Bool, cond, _||_}
+use mathlib.Core.Bool.{Bool, true, false, cond, _||_}
 use mathlib.Core.List.{List, [], _∷_, _++_, map}
 use lib.ListN.{length}
 use lib.Dec.{eqb, ltb, leb}
@@ -11,6 +11,8 @@ use Rattle.field64.specs.Field.{addMod, subMod, mulMod}
 use Rattle.field64.specs.Sums.{total}
 use Rattle.doubles.specs.Doubles.{coordinateRule, element}
 use Rattle.pine.specs.declared.PineParam.{PineParam}
+use Rattle.pine.specs.declared.WrTestRule.{WrTestRule}
+use Rattle.pine.specs.declared.WrTestRule.the-variants.{Every, Enough}
 use Rattle.pine.specs.Param.{Field, paramAnswer}
 use Rattle.pine.specs.Record.{sqNormBound, sqNormBits, wrTestBound, wrTestBits, encodedInputLen, bytesPerTest, streamLen}
 use Rattle.rows.specs.Rows.{rowRule}
@@ -25,15 +27,35 @@ elements p f gradient = map (λ x. element p x f) gradient
 unfoldable pub sqNorm : (p : ℕ) (xs : List ℕ) → ℕ
 sqNorm p xs = total p (map (λ x. mulMod p x x) xs)
 
--- the success bit of a test, k of these still to be given
-abbrev pub success : (k : ℕ) → ℕ
-success zero = 0
-success (suc k) = 1
+-- ---- the tests
 
--- per test w bits of result + b - 1, low first, then one success bit: 1 for the first k tests, else 0
+-- from -b + 1 to b as a centred number: r is at most b, or r - p at least -b + 1
+abbrev pub inRange : (p b r : ℕ) → Bool
+inRange p b r = leb r b || ltb p (r + b)
+
+-- how many results are in range
+unfoldable pub countInRange : (p b : ℕ) (results : List ℕ) → ℕ
+countInRange p b [] = 0
+countInRange p b (r ∷ rs) = cond (inRange p b r) (suc (countInRange p b rs)) (countInRange p b rs)
+
+-- the number that is written for a result: result + b - 1, or 0 where it is out of range
+abbrev pub written : (p b r : ℕ) → ℕ
+written p b r = cond (inRange p b r) (addMod p r (b - 1)) 0
+
+-- the success bit of a test that is in range or not, k of these still to be given
+abbrev pub success : (hit : Bool) (k : ℕ) → ℕ
+success false k = 0
+success true zero = 0
+success true (suc k) = 1
+
+-- how many are still to be given after it
+abbrev pub stillToGive : (hit : Bool) (k : ℕ) → ℕ
+stillToGive hit k = cond hit (k - 1) k
+
+-- per test w bits of its number, low first, then one success bit: of the tests in range the first k have 1, every other test has 0
 unfoldable pub testBits : (p w b k : ℕ) (results : List ℕ) → List ℕ
 testBits p w b k [] = []
-testBits p w b k (r ∷ rs) = bits w (addMod p r (b - 1)) ++ (success k ∷ testBits p w b (k - 1) rs)
+testBits p w b k (r ∷ rs) = bits w (written p b r) ++ (success (inRange p b r) k ∷ testBits p w b (stillToGive (inRange p b r) k) rs)
 
 -- of a gradient with the elements xs
 module _ (p : ℕ) (i : PineParam) (stream xs : List ℕ) where
@@ -62,14 +84,19 @@ gradientLenRule n d = cond (eqb n d) accepted (answer 9 0)
 abbrev pub sqNormRule : (v B : ℕ) → Answer
 sqNormRule v B = refuse (ltb B v) 10 0
 
--- from -b + 1 to b as a centred number: r is at most b, or r - p at least -b + 1
-abbrev pub inRange : (p b r : ℕ) → Bool
-inRange p b r = leb r b || ltb p (r + b)
-
 -- rule 11: the first result out of range, counted from k
-unfoldable pub rangeRule : (p b k : ℕ) (results : List ℕ) → Answer
-rangeRule p b k [] = accepted
-rangeRule p b k (r ∷ rs) = cond (inRange p b r) (rangeRule p b (suc k) rs) (answer 11 k)
+unfoldable pub everyRule : (p b k : ℕ) (results : List ℕ) → Answer
+everyRule p b k [] = accepted
+everyRule p b k (r ∷ rs) = cond (inRange p b r) (everyRule p b (suc k) rs) (answer 11 k)
+
+-- rule 20: fewer than K of the results are in range; its place is how many are
+unfoldable pub enoughRule : (p b K : ℕ) (results : List ℕ) → Answer
+enoughRule p b K rs = refuse (ltb (countInRange p b rs) K) 20 (countInRange p b rs)
+
+-- the one that the inputs name
+unfoldable pub rangeRule : WrTestRule → (p b K : ℕ) (results : List ℕ) → Answer
+rangeRule Every p b K rs = everyRule p b 0 rs
+rangeRule Enough p b K rs = enoughRule p b K rs
 
 -- the answer and both rows
 pub record Encoded : Type 0 where
@@ -92,7 +119,7 @@ module _ (F : Field) (i : PineParam) (gradient : List Float) (stream measurement
       ∷ coordinatesRule (F .floorLimit) (i .«frac_bits») 0 gradient
       ∷ gradientLenRule (length gradient) (i .dimension)
       ∷ sqNormRule (sqNorm (F .p) (elements (F .p) (i .«frac_bits») gradient)) (sqNormBound i)
-      ∷ rangeRule (F .p) (wrTestBound i) 0 (resultsOf (F .p) i stream (elements (F .p) (i .«frac_bits») gradient))
+      ∷ rangeRule (i .«wr_test_rule») (F .p) (wrTestBound i) (i .«num_wr_successes») (resultsOf (F .p) i stream (elements (F .p) (i .«frac_bits») gradient))
       ∷ []
 
   abbrev pub encodeAnswer : Answer

@@ -7,6 +7,7 @@ use Rattle.rules.specs.Rules.{refuse, inOrder, outOf}
 use Rattle.field64.specs.Field.{p64}
 use Rattle.doubles.specs.Doubles.{fracBitsRule, floorLimit64}
 use Rattle.pine.specs.declared.PineParam.{PineParam}
+use Rattle.pine.specs.declared.WrTestRule.the-variants.{Every}
 
 -- what the calls need to know of a field: its modulus, how far from 0 the floor of a coordinate may lie, and the largest norm bound that is allowed over it
 pub record Field : Type 0 where
@@ -17,7 +18,7 @@ pub record Field : Type 0 where
 abbrev pub Field64 : Field
 Field64 = record { p = p64; floorLimit = floorLimit64; normLimit = 3037000499 }
 
--- the inputs with the multiplier 87 / 10, which the original's ALPHA is
+-- the inputs with which all is as in the original: the multiplier 87 / 10, which its ALPHA is, and every test in range
 abbrev pub standard : (n d f c e T K : ℕ) → PineParam
 standard n d f c e T K = record {
   «norm_bound» = n;
@@ -29,6 +30,7 @@ standard n d f c e T K = record {
   «num_wr_successes» = K;
   «alpha_numerator» = 87;
   «alpha_denominator» = 10;
+  «wr_test_rule» = Every;
 }
 
 -- one chunk length

@@ -8,8 +8,15 @@ ghost use Rattle.pine.specs.Param.{standard};
 
 pub mod record;
 
-// The inputs: the seven of the Rust, as it names them, and its ALPHA as a fraction.
-#[repr(C)]
+// Which of the wraparound tests must be in range for a gradient to be encoded.
+pub enum WrTestRule {
+    // All of them, as in the Rust.
+    Every,
+    // At least num_wr_successes. A test that is out of range is written as zeros, and does not count.
+    Enough,
+}
+
+// The inputs: the seven of the Rust, as it names them; its ALPHA as a fraction; and the rule of the tests.
 pub struct PineParam {
     pub norm_bound: u64,
     pub dimension: u64,
@@ -21,10 +28,11 @@ pub struct PineParam {
     // The wraparound tests' bound is the smallest power of two not below ceil(alpha · norm_bound) + 1.
     pub alpha_numerator: u16,
     pub alpha_denominator: u16,
+    pub wr_test_rule: WrTestRule,
 }
 
 impl PineParam {
-    // The inputs with the Rust's own ALPHA, 8.7.
+    // The inputs with which all is as in the Rust: its ALPHA, 8.7, and every test in range.
     pub fn standard(
         norm_bound: u64,
         dimension: u64,
@@ -46,6 +54,7 @@ impl PineParam {
             num_wr_successes,
             alpha_numerator: 87,
             alpha_denominator: 10,
+            wr_test_rule: WrTestRule::Every,
         }
     }
 }
