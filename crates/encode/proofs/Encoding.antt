@@ -1,4 +1,4 @@
--- The cases of encoding: refused by rules 1 to 9 or 17, or by 10 or 11, or accepted. Assumes nothing.
+-- The cases of encoding: refused by a rule up to 9, or by a later one, or accepted. Assumes nothing.
 use mathlib.Core.Path.{_≡_, refl, sym, ap, _∙_}
 use mathlib.Core.Bool.{Bool, true, false, cond}
 use mathlib.Core.List.{List, [], _∷_, _++_}
@@ -7,14 +7,16 @@ use native.Mathlib.Nat.{le-of-eq}
 use native.Mathlib.Omega.{arith}
 use lib.ListN.{length, take, drop, replicate}
 use lib.Seq.{length-take-le}
-use lib.Dec.{eqb}
+use lib.Dec.{eqb, ltb}
 use lib.Ieee.{Float}
 use borrow.Author.Tests.{eq-eqb, ne-eqb, eqb-true}
 use Rattle.rules.specs.declared.Answer.{Answer}
 use Rattle.rules.specs.Rules.{answer, accepted, first, inOrder}
-use Rattle.rules.proofs.Chain.{passed, accepted-whole, so, first-refused, first-passed, split}
+use Rattle.rules.proofs.Chain.{passed, accepted-whole, refuse-last, so, first-refused, first-passed, split}
 use Rattle.field64.specs.Field.{p64, subMod}
 use Rattle.pine.specs.declared.PineParam.{PineParam}
+use Rattle.pine.specs.declared.WrTestRule.{WrTestRule}
+use Rattle.pine.specs.declared.WrTestRule.the-variants.{Every, Enough}
 use Rattle.pine.specs.declared.record.Pine.{Pine}
 use Rattle.pine.specs.Param.{Field, Field64, paramAnswer}
 use Rattle.pine.specs.Record.{sqNormBound, sqNormBits, wrTestBound, wrTestBits, bitCheckedLen, encodedInputLen, bytesPerTest, streamLen, pineOf, boundIn}
@@ -23,19 +25,24 @@ use Rattle.pine.proofs.Limits.{limits, param-accepted}
 use Rattle.pine.proofs.Sizes.{bound-64, norm-64, bound-positive, recovered-64}
 use Rattle.rows.proofs.Lengths.{row-right}
 use Rattle.flp.specs.Tests.{testsOf}
-use Rattle.flp.specs.Encode.{elements, sqNorm, resultsOf, measurementOf, coordinatesRule, gradientLenRule, sqNormRule, inRange, rangeRule, encodeOutcome, encodeRules, encodeAnswer, encodeOf}
+use Rattle.flp.specs.Encode.{elements, sqNorm, resultsOf, measurementOf, coordinatesRule, gradientLenRule, sqNormRule, inRange, countInRange, everyRule, enoughRule, rangeRule, encodeOutcome, encodeRules, encodeAnswer, encodeOf}
 use Rattle.measurement.specs.Parts.{Usable, checkedOf}
 use Rattle.gradient_rules.proofs.Searches.{all-usable}
 
 -- each as the last rule of a chain
-range-last : (p b k : ℕ) (rs : List ℕ) → first (rangeRule p b k rs) accepted ≡ rangeRule p b k rs
-unfolding rangeRule
-range-last p b k [] = refl
-range-last p b k (r ∷ rs) = go (inRange p b r) (range-last p b (suc k) rs)
+every-last : (p b k : ℕ) (rs : List ℕ) → first (everyRule p b k rs) accepted ≡ everyRule p b k rs
+unfolding everyRule
+every-last p b k [] = refl
+every-last p b k (r ∷ rs) = go (inRange p b r) (every-last p b (suc k) rs)
   where
-    go : (t : Bool) → first (rangeRule p b (suc k) rs) accepted ≡ rangeRule p b (suc k) rs → first (cond t (rangeRule p b (suc k) rs) (answer 11 k)) accepted ≡ cond t (rangeRule p b (suc k) rs) (answer 11 k)
+    go : (t : Bool) → first (everyRule p b (suc k) rs) accepted ≡ everyRule p b (suc k) rs → first (cond t (everyRule p b (suc k) rs) (answer 11 k)) accepted ≡ cond t (everyRule p b (suc k) rs) (answer 11 k)
     go true e = e
     go false e = refl
+
+range-last : (rule : WrTestRule) (p b K : ℕ) (rs : List ℕ) → first (rangeRule rule p b K rs) accepted ≡ rangeRule rule p b K rs
+unfolding rangeRule enoughRule
+range-last Every p b K rs = every-last p b 0 rs
+range-last Enough p b K rs = refuse-last (ltb (countInRange p b rs) K) 19 (countInRange p b rs)
 
 len-last : (n d : ℕ) → first (gradientLenRule n d) accepted ≡ gradientLenRule n d
 len-last n d = go (eqb n d)
@@ -127,7 +134,7 @@ module _ (F : Field) (i : PineParam) (g : List Float) (s m r : List ℕ) where
 
         -- what the code has found
         module _ (v b : ℕ) (rs : List ℕ) (a : Answer) (eb : b ≡ boundIn R) (ev : v ≡ sqNorm (F .p) ys) (er : rs ≡ testsOf (F .p) ((length g + 3) / 4) n s ys)
-            (ea : a ≡ first (sqNormRule v (R .«sq_norm_bound»)) (rangeRule (F .p) b 0 rs)) where
+            (ea : a ≡ first (sqNormRule v (R .«sq_norm_bound»)) (rangeRule (i .«wr_test_rule») (F .p) b (R .«num_wr_successes») rs)) where
           norm-is : v ≡ sqNorm (F .p) xs
           unfolding pineOf
           norm-is = rw is at ev
@@ -136,13 +143,13 @@ module _ (F : Field) (i : PineParam) (g : List Float) (s m r : List ℕ) where
           unfolding pineOf resultsOf
           results-are = er ∙ (λ j. testsOf (F .p) (bytesPerTest (ready .gradient-long j)) ((l ∙ ready .results-long) j) s (elements (F .p) (is j .«frac_bits») g))
 
-          late-is : a ≡ first (sqNormRule v (sqNormBound i)) (rangeRule (F .p) (wrTestBound i) 0 rs)
+          late-is : a ≡ first (sqNormRule v (sqNormBound i)) (rangeRule (i .«wr_test_rule») (F .p) (wrTestBound i) (i .«num_wr_successes») rs)
           unfolding pineOf
-          late-is = ea ∙ (λ j. first (sqNormRule v (is j .«sq_norm_bound»)) (rangeRule (F .p) ((eb ∙ b-is) j) 0 rs))
+          late-is = ea ∙ (λ j. first (sqNormRule v (is j .«sq_norm_bound»)) (rangeRule (i .«wr_test_rule») (F .p) ((eb ∙ b-is) j) (is j .«num_wr_successes») rs))
 
-          late : inOrder (drop 6 (encodeRules F i g s m r)) ≡ first (sqNormRule v (sqNormBound i)) (rangeRule (F .p) (wrTestBound i) 0 rs)
+          late : inOrder (drop 6 (encodeRules F i g s m r)) ≡ first (sqNormRule v (sqNormBound i)) (rangeRule (i .«wr_test_rule») (F .p) (wrTestBound i) (i .«num_wr_successes») rs)
           unfolding encodeRules
-          late = rw (norm-is, results-are, range-last (F .p) (wrTestBound i) 0 (resultsOf (F .p) i s xs))
+          late = rw (norm-is, results-are, range-last (i .«wr_test_rule») (F .p) (wrTestBound i) (i .«num_wr_successes») (resultsOf (F .p) i s xs))
 
           answer-is : encodeAnswer F i g s m r ≡ a
           answer-is = split 6 (encodeRules F i g s m r) ∙ first-passed early (inOrder (drop 6 (encodeRules F i g s m r))) (ap (λ (b : Answer). b .number) met) ∙ late ∙ sym late-is

@@ -46,13 +46,16 @@ fn encode_usable(
     ensures { λ r. ⌜ encodeOutcome r (now (measurement .exit)) (now (results .exit)) ≡ encodeOf Field64 param (now (gradient .entry)) (now (stream .entry)) (now (measurement .entry)) (now (results .entry)) ⌝ }
 {
     let pine = Pine::new(param);
+    let rule = param.wr_test_rule;
     let per = (gradient.len() + 3) / 4;
     let v = gradient::norm_and_tests(gradient, pine.scale, pine.frac_bits, per, stream, found);
     let late = gradient_rules::check_norm_and_tests(
         v,
         pine.sq_norm_bound,
+        rule,
         found,
         pine.wr_test_bound(),
+        pine.num_wr_successes,
     );
     if late.number != 0 {
         return late;

@@ -1,12 +1,13 @@
-// Internal: the rules on a gradient, 8 with 17, 9, 10 and 11. A function here asks its caller for what it does not test
-// itself.
+// Internal: the rules on a gradient, 8 with 17, 9, 10, and 11 or 20. A function here asks its caller for what it does
+// not test itself.
+use pine::WrTestRule;
 use rules::Answer;
 ghost use mathlib.Core.Path.{_≡_};
 ghost use Prim.Native.Nat.{_≤_};
 ghost use Rattle.rules.specs.Rules.{accepted, first};
 ghost use Rattle.field64.specs.Field.{p64};
 ghost use Rattle.doubles.specs.Doubles.{floorLimit64, power};
-ghost use Rattle.flp.specs.Encode.{coordinatesRule, gradientLenRule, sqNormRule, inRange, rangeRule};
+ghost use Rattle.flp.specs.Encode.{coordinatesRule, gradientLenRule, sqNormRule, countInRange, everyRule, enoughRule, rangeRule};
 
 // Rules 8 and 17: the first coordinate that either refuses.
 fn search(gradient: &[f64], scale: f64, frac_bits: u64) -> Answer
@@ -66,26 +67,14 @@ pub fn check_gradient_len(len: usize, dimension: u64) -> Answer
     }
 }
 
-// Whether a result lies from -b + 1 to b.
-fn in_range(r: u64, bound: u64) -> bool
-    requires { ⌜ bound ≤ p64 ⌝ }
-    ensures { λ t. ⌜ t ≡ inRange p64 bound r ⌝ }
-{
-    if r <= bound {
-        true
-    } else {
-        field64::P - bound < r
-    }
-}
-
 // Rule 11.
-fn check_results(results: &[u64], bound: u64) -> Answer
+fn check_every(results: &[u64], bound: u64) -> Answer
     requires { ⌜ bound ≤ p64 ⌝ }
-    ensures { λ r. ⌜ r ≡ rangeRule p64 bound 0 (now (results .entry)) ⌝ }
+    ensures { λ r. ⌜ r ≡ everyRule p64 bound 0 (now (results .entry)) ⌝ }
 {
     let mut t = 0;
     while t < results.len() {
-        if !in_range(results[t], bound) {
+        if !measurement::in_range(results[t], bound) {
             return Answer {
                 number: rules::WR_TEST,
                 place: t as u64,
@@ -96,12 +85,53 @@ fn check_results(results: &[u64], bound: u64) -> Answer
     Answer::accepted()
 }
 
-// Rules 10 and 11.
-pub fn check_norm_and_tests(v: u64, sq_norm_bound: u64, results: &[u64], bound: u64) -> Answer
+// How many results are in range.
+fn count_in_range(results: &[u64], bound: u64) -> u64
     requires { ⌜ bound ≤ p64 ⌝ }
-    ensures { λ r. ⌜ r ≡ first (sqNormRule v «sq_norm_bound») (rangeRule p64 bound 0 (now (results .entry))) ⌝ }
+    ensures { λ r. ⌜ r ≡ countInRange p64 bound (now (results .entry)) ⌝ }
+{
+    let mut count = 0;
+    let mut t = 0;
+    while t < results.len() {
+        count += measurement::in_range(results[t], bound) as u64;
+        t += 1;
+    }
+    count
+}
+
+// Rule 20.
+fn check_enough(results: &[u64], bound: u64, successes: u64) -> Answer
+    requires { ⌜ bound ≤ p64 ⌝ }
+    ensures { λ r. ⌜ r ≡ enoughRule p64 bound successes (now (results .entry)) ⌝ }
+{
+    let count = count_in_range(results, bound);
+    Answer::refuse_if(count < successes, rules::WR_TESTS_IN_RANGE, count)
+}
+
+// The one of the two that the inputs name.
+fn check_results(rule: WrTestRule, results: &[u64], bound: u64, successes: u64) -> Answer
+    requires { ⌜ bound ≤ p64 ⌝ }
+    ensures { λ r. ⌜ r ≡ rangeRule rule p64 bound successes (now (results .entry)) ⌝ }
+{
+    match rule {
+        WrTestRule::Every => check_every(results, bound),
+        WrTestRule::Enough => check_enough(results, bound, successes),
+    }
+}
+
+// Rules 10, and 11 or 20.
+pub fn check_norm_and_tests(
+    v: u64,
+    sq_norm_bound: u64,
+    rule: WrTestRule,
+    results: &[u64],
+    bound: u64,
+    successes: u64,
+) -> Answer
+    requires { ⌜ bound ≤ p64 ⌝ }
+    ensures { λ r. ⌜ r ≡ first (sqNormRule v «sq_norm_bound») (rangeRule rule p64 bound successes (now (results .entry))) ⌝ }
 {
     let norm = Answer::refuse_if(sq_norm_bound < v, rules::SQ_NORM, 0);
-    let tests = check_results(results, bound);
+    let tests = check_results(rule, results, bound, successes);
     norm.or(tests)
 }

@@ -2,15 +2,16 @@
 // test itself.
 use pine::record::Pine;
 ghost use mathlib.Core.Path.{_≡_};
+ghost use mathlib.Core.Bool.{cond};
 ghost use mathlib.Core.List.{[], _∷_, _++_};
 ghost use Prim.Native.Nat.{_+_, _-_, _*_, _≤_, _<_};
 ghost use lib.ListN.{length};
-ghost use Rattle.field64.specs.Field.{p64, subMod};
+ghost use Rattle.field64.specs.Field.{p64, addMod, subMod};
 ghost use Rattle.doubles.specs.Doubles.{floorLimit64, power};
 ghost use Rattle.pine.specs.Record.{boundIn};
 ghost use Rattle.rows.specs.Rows.{Below};
 ghost use Rattle.flp.specs.Bits.{bits};
-ghost use Rattle.flp.specs.Encode.{elements, success, testBits};
+ghost use Rattle.flp.specs.Encode.{elements, inRange, success, testBits};
 ghost use Rattle.measurement.specs.Parts.{Usable, checkedOf};
 
 // Writes the gradient's elements over a row of as many, one by one.
@@ -80,27 +81,54 @@ fn write_test(w: usize, value: u64, success: u64, row: &mut [u64])
     row[w] = success;
 }
 
-// The success bit of test t: 1 for the first tests.
-fn success_bit(t: usize, successes: u64) -> u64
-    ensures { λ r. ⌜ r ≡ success (successes - t) ⌝ }
+// Whether a result lies from -b + 1 to b.
+pub fn in_range(r: u64, bound: u64) -> bool
+    requires { ⌜ bound ≤ p64 ⌝ }
+    ensures { λ t. ⌜ t ≡ inRange p64 bound r ⌝ }
 {
-    if (t as u64) < successes { 1 } else { 0 }
+    if r <= bound {
+        true
+    } else {
+        field64::P - bound < r
+    }
 }
 
-// Writes the test bits over a row of w + 1 elements for each result: w bits of result + b - 1, then
-// the success bit.
+// The number that is written for a result: result + b - 1, or 0 where it is out of range.
+fn number_of(r: u64, bound: u64, hit: bool) -> u64
+    requires { ⌜ (r < p64) × ((0 < bound) × (bound ≤ p64)) ⌝ }
+    ensures { λ n. ⌜ n ≡ cond hit (addMod p64 r (bound - 1)) 0 ⌝ }
+{
+    if hit { field64::add(r, bound - 1) } else { 0 }
+}
+
+// The success bit of a test that is in range or not, so many of these still to be given.
+fn success_bit(hit: bool, left: u64) -> u64
+    ensures { λ r. ⌜ r ≡ success hit left ⌝ }
+{
+    if !hit {
+        return 0;
+    }
+    if left == 0 { 0 } else { 1 }
+}
+
+// Writes the test bits over a row of w + 1 elements for each result: w bits of its number, then the
+// success bit, which the first tests in range have.
 fn write_tests(w: usize, bound: u64, successes: u64, results: &[u64], row: &mut [u64])
     requires { ⌜ length (now row) ≡ (1 + w) * length (now results) ⌝ }
     requires { ⌜ Below p64 (now results) × ((0 < bound) × (bound ≤ p64)) ⌝ }
     ensures { λ _. ⌜ now (row .exit) ≡ testBits p64 w bound successes (now (results .entry)) ⌝ }
 {
+    let mut left = successes;
     let mut start = 0;
     let mut t = 0;
     while t < results.len() {
-        let value = field64::add(results[t], bound - 1);
-        let success = success_bit(t, successes);
+        let r = results[t];
+        let hit = in_range(r, bound);
+        let value = number_of(r, bound, hit);
+        let success = success_bit(hit, left);
         let end = start + w + 1;
         write_test(w, value, success, &mut row[start..end]);
+        left -= success;
         start = end;
         t += 1;
     }
