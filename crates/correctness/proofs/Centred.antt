@@ -9,6 +9,7 @@ use lib.IntN.{ℤ, pos, negsuc, natAbs, subℕ, _+ℤ_}
 use borrow.Author.Tests.{ltb-true, ltb-false, lt-ltb, le-ltb}
 use Rattle.field64.proofs.Modular.{add-both, cancel}
 use Rattle.doubles.specs.Doubles.{modP}
+use Rattle.doubles.proofs.Sense.{modP-negative}
 use Rattle.correctness.proofs.Cut.{centredNumber}
 
 -- a whole number is `plus` less `minus`
@@ -38,12 +39,7 @@ module _ (p : ℕ) (positive : 0 < p) where
   pub modP-parts : (z : ℤ) → (modP p z + minus z) % p ≡ plus z % p
   unfolding modP
   modP-parts (pos n) = rw (add-zero, mod-mod)
-  modP-parts (negsuc n) =
-      let l : n % p < p = mod-lt n positive in
-      let c = p - 1 - n % p in
-      let a : c + suc n ≡ (c + 1) + n = omega arith in
-      let b : (c + 1) + n % p ≡ p = omega arith in
-      rw a (sym (add-mod-mod (c + 1) n p) ∙ rw b (mod-self p ∙ sym (zero-mod p)))
+  modP-parts (negsuc n) = modP-negative p positive n ∙ sym (zero-mod p)
 
   pub sum-parts-mod : (w W : ℕ) (z Z : ℤ) → (w + minus z) % p ≡ plus z % p → (W + minus Z) % p ≡ plus Z % p → ((w + W) + minus (z +ℤ Z)) % p ≡ plus (z +ℤ Z) % p
   sum-parts-mod w W z Z e f =

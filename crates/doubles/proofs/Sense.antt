@@ -1,11 +1,11 @@
--- The definitions of `specs/Doubles.antt` are what they are called: the floor is the one whole number with floor * c ≤ z < (floor + 1) * c, the remainder is below p, and for p64 differs from z
--- by a multiple of it. Assumes nothing.
-use mathlib.Core.Path.{_≡_, refl, sym}
+-- The definitions of `specs/Doubles.antt` are what they are called: the floor is the one whole number with floor * c ≤ z < (floor + 1) * c, the remainder is below p, and differs from z by a
+-- multiple of it. Assumes nothing.
+use mathlib.Core.Path.{_≡_, refl, sym, _∙_}
 use mathlib.Core.Bool.{true, false}
-use Prim.Native.Nat.{ℕ, zero, suc, _+_, _-_, _*_, _/_, _%_, _≤_, _<_}
-use native.Mathlib.Nat.{le-of-eq, le-of-suc-le-suc, lt-of-lt-of-le, suc-mul, mod-lt, div-mul-le-self, lt-div-mul-add}
+use Prim.Native.Nat.{ℕ, zero, suc, _+_, _-_, _*_, _/_, _%_, _≤_, _<_, min}
+use native.Mathlib.Nat.{le-of-eq, le-of-suc-le-suc, lt-of-lt-of-le, suc-mul, mod-lt, mod-self, mod-eq-of-lt, add-mod-mod, min-eq-left, min-eq-right, div-mul-le-self, lt-div-mul-add}
 use native.Mathlib.Omega.{arith}
-use lib.IntN.{ℤ, pos, negsuc, sucℤ, negℤ, _*ℤ_}
+use lib.IntN.{ℤ, pos, negsuc, natAbs, sucℤ, negℤ, _*ℤ_}
 use lib.Dec.{T, le→leb, lt→ltb}
 use lib.Signed.{leZ, ltZ}
 use lib.Ieee.{Float, nan, fin}
@@ -47,17 +47,26 @@ pub element-below : (p : ℕ) → 0 < p → (x : Float) (f : ℕ) → element p 
 unfolding element
 element-below p h x f = modP-below p h (floorOf x f)
 
-pub modP-positive : (n : ℕ) → modP p64 (pos n) ≡ n % p64
+-- -(n + 1) and its remainder: their difference is a multiple of p
+pub modP-negative : (p : ℕ) → 0 < p → (n : ℕ) → (modP p (negsuc n) + suc n) % p ≡ 0
 unfolding modP
-modP-positive n = refl
+modP-negative p positive n =
+    let l : n % p < p = mod-lt n positive in
+    let c = p - 1 - n % p in
+    let a : c + suc n ≡ (c + 1) + n = omega arith in
+    let b : (c + 1) + n % p ≡ p = omega arith in
+    rw a (sym (add-mod-mod (c + 1) n p) ∙ rw b (mod-self p))
 
--- -(n + 1) and its remainder: their difference is a multiple of p64
-pub modP-negative : (n : ℕ) → (modP p64 (negsuc n) + suc n) % p64 ≡ 0
+-- a whole number that lies no further from 0 than half of p: the nearer of its two distances around p
+pub size-back : (p limit : ℕ) → 2 * limit < p → (z : ℤ) → natAbs z ≤ limit → min (modP p z) (p - modP p z) ≡ natAbs z
 unfolding modP
-modP-negative n = go n
-  where
-    go : (n : ℕ) → (p64 - 1 - n % p64 + suc n) % p64 ≡ 0
-    go n = omega arith
+size-back p limit room (pos n) h =
+    let e : n % p ≡ n = mod-eq-of-lt (omega arith) in
+    rw e (min-eq-left (omega arith))
+size-back p limit room (negsuc n) h =
+    let e : n % p ≡ n = mod-eq-of-lt (omega arith) in
+    let g : p - (p - 1 - n) ≡ suc n = omega arith in
+    rw (e, g) (min-eq-right (omega arith))
 
 -- ---- worked rows
 

@@ -1,15 +1,16 @@
--- Encoding a gradient (document 01, "The gradient and norm bits", "The test bits"; document 02, e and i). Assumes nothing.
-use Prim.Native.Nat.{ℕ, zero, suc, _+_, _-_}
-use mathlib.Core.Bool.{Bool, true, false, cond, _||_}
+-- Encoding a gradient (document 01, "The gradient and norm bits", "The test bits"; document 02, e, i and k). Assumes nothing.
+use Prim.Native.Nat.{ℕ, zero, suc, _+_, _-_, _*_}
+use mathlib.Core.Bool.{Bool, true, false, cond, _||_, _&&_}
 use mathlib.Core.List.{List, [], _∷_, _++_, map}
 use lib.ListN.{length}
+use lib.IntN.{natAbs}
 use lib.Dec.{eqb, ltb, leb}
 use lib.Ieee.{Float}
 use Rattle.rules.specs.declared.Answer.{Answer}
 use Rattle.rules.specs.Rules.{answer, accepted, refuse, inOrder}
 use Rattle.field64.specs.Field.{addMod, subMod, mulMod}
 use Rattle.field64.specs.Sums.{total}
-use Rattle.doubles.specs.Doubles.{coordinateRule, element}
+use Rattle.doubles.specs.Doubles.{coordinateRule, floorOf, element}
 use Rattle.pine.specs.declared.PineParam.{PineParam}
 use Rattle.pine.specs.declared.WrTestRule.{WrTestRule}
 use Rattle.pine.specs.declared.WrTestRule.the-variants.{Every, Enough}
@@ -26,6 +27,11 @@ elements p f gradient = map (λ x. element p x f) gradient
 -- v, the sum of squares in the field
 unfoldable pub sqNorm : (p : ℕ) (xs : List ℕ) → ℕ
 sqNorm p xs = total p (map (λ x. mulMod p x x) xs)
+
+-- the true squared norm: the squares of the floors as whole numbers, added without reduction
+unfoldable pub trueSqNorm : (f : ℕ) → List Float → ℕ
+trueSqNorm f [] = 0
+trueSqNorm f (x ∷ xs) = natAbs (floorOf x f) * natAbs (floorOf x f) + trueSqNorm f xs
 
 -- ---- the tests
 
@@ -80,6 +86,10 @@ coordinatesRule limit f k (x ∷ xs) = cond (eqb (coordinateRule limit x f .numb
 abbrev pub gradientLenRule : (n d : ℕ) → Answer
 gradientLenRule n d = cond (eqb n d) accepted (answer 9 0)
 
+-- rule 21: where the switch is on, the true squared norm above B
+abbrev pub trueSqNormRule : (on : Bool) (n B : ℕ) → Answer
+trueSqNormRule on n B = refuse (on && ltb B n) 21 0
+
 -- rule 10: v above B
 abbrev pub sqNormRule : (v B : ℕ) → Answer
 sqNormRule v B = refuse (ltb B v) 10 0
@@ -118,6 +128,7 @@ module _ (F : Field) (i : PineParam) (gradient : List Float) (stream measurement
       ∷ rowRule 4 (length results) (i .«num_wr_tests»)
       ∷ coordinatesRule (F .floorLimit) (i .«frac_bits») 0 gradient
       ∷ gradientLenRule (length gradient) (i .dimension)
+      ∷ trueSqNormRule (i .«true_sq_norm») (trueSqNorm (i .«frac_bits») gradient) (sqNormBound i)
       ∷ sqNormRule (sqNorm (F .p) (elements (F .p) (i .«frac_bits») gradient)) (sqNormBound i)
       ∷ rangeRule (i .«wr_test_rule») (F .p) (wrTestBound i) (i .«num_wr_successes») (resultsOf (F .p) i stream (elements (F .p) (i .«frac_bits») gradient))
       ∷ []

@@ -1,6 +1,7 @@
 -- The inputs and the rules on them: 1 to 6 (document 01, "Rules broken"), then 19 (document 02, g). Assumes nothing.
 use Prim.Native.Nat.{ℕ}
 use mathlib.Core.List.{List, [], _∷_}
+use mathlib.Core.Bool.{false}
 use lib.Dec.{ltb}
 use Rattle.rules.specs.declared.Answer.{Answer}
 use Rattle.rules.specs.Rules.{refuse, inOrder, outOf}
@@ -18,7 +19,7 @@ pub record Field : Type 0 where
 abbrev pub Field64 : Field
 Field64 = record { p = p64; floorLimit = floorLimit64; normLimit = 3037000499 }
 
--- the inputs with which all is as in the original: the multiplier 87 / 10, which its ALPHA is, and every test in range
+-- the inputs with which all is as in the original: the multiplier 87 / 10, which its ALPHA is; every test in range; no bound of the true squared norm
 abbrev pub standard : (n d f c e T K : ℕ) → PineParam
 standard n d f c e T K = record {
   «norm_bound» = n;
@@ -31,6 +32,7 @@ standard n d f c e T K = record {
   «alpha_numerator» = 87;
   «alpha_denominator» = 10;
   «wr_test_rule» = Every;
+  «true_sq_norm» = false;
 }
 
 -- one chunk length

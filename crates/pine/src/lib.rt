@@ -16,7 +16,8 @@ pub enum WrTestRule {
     Enough,
 }
 
-// The inputs: the seven of the Rust, as it names them; its ALPHA as a fraction; and the rule of the tests.
+// The inputs: the seven of the Rust, as it names them; its ALPHA as a fraction; the rule of the tests; and the switch
+// for the true squared norm.
 pub struct PineParam {
     pub norm_bound: u64,
     pub dimension: u64,
@@ -29,10 +30,12 @@ pub struct PineParam {
     pub alpha_numerator: u16,
     pub alpha_denominator: u16,
     pub wr_test_rule: WrTestRule,
+    // Whether the squared norm without reduction, too, must be within norm_bound squared.
+    pub true_sq_norm: bool,
 }
 
 impl PineParam {
-    // The inputs with which all is as in the Rust: its ALPHA, 8.7, and every test in range.
+    // The inputs with which all is as in the Rust: its ALPHA, 8.7; every test in range; no bound of the true norm.
     pub fn standard(
         norm_bound: u64,
         dimension: u64,
@@ -55,6 +58,7 @@ impl PineParam {
             alpha_numerator: 87,
             alpha_denominator: 10,
             wr_test_rule: WrTestRule::Every,
+            true_sq_norm: false,
         }
     }
 }
