@@ -1,13 +1,15 @@
-// Internal: the rules on a gradient, 8 with 17, 9, 10, and 11 or 20. A function here asks its caller for what it does
+// Internal: the rules on a gradient, 8 with 17, 9, 21, 10, and 11 or 20. A function here asks its caller for what it does
 // not test itself.
 use pine::WrTestRule;
 use rules::Answer;
+use sums::Sum;
 ghost use mathlib.Core.Path.{_≡_};
 ghost use Prim.Native.Nat.{_≤_};
 ghost use Rattle.rules.specs.Rules.{accepted, first};
 ghost use Rattle.field64.specs.Field.{p64};
+ghost use Rattle.sums.specs.Unreduced.{wordsOf};
 ghost use Rattle.doubles.specs.Doubles.{floorLimit64, power};
-ghost use Rattle.flp.specs.Encode.{coordinatesRule, gradientLenRule, sqNormRule, countInRange, everyRule, enoughRule, rangeRule};
+ghost use Rattle.flp.specs.Encode.{coordinatesRule, gradientLenRule, trueSqNormRule, sqNormRule, countInRange, everyRule, enoughRule, rangeRule};
 
 // Rules 8 and 17: the first coordinate that either refuses.
 fn search(gradient: &[f64], scale: f64, frac_bits: u64) -> Answer
@@ -119,8 +121,21 @@ fn check_results(rule: WrTestRule, results: &[u64], bound: u64, successes: u64) 
     }
 }
 
-// Rules 10, and 11 or 20.
+// Rule 21, on the squared norm without reduction.
+fn check_true_norm(on: bool, norm: Sum, sq_norm_bound: u64) -> Answer
+    ensures { λ r. ⌜ r ≡ trueSqNormRule on (wordsOf norm) «sq_norm_bound» ⌝ }
+{
+    if on {
+        let above = norm.above(sq_norm_bound);
+        return Answer::refuse_if(above, rules::TRUE_SQ_NORM, 0);
+    }
+    Answer::accepted()
+}
+
+// Rules 21, 10, and 11 or 20. v is the squared norm modulo p.
 pub fn check_norm_and_tests(
+    true_sq_norm: bool,
+    norm: Sum,
     v: u64,
     sq_norm_bound: u64,
     rule: WrTestRule,
@@ -129,9 +144,10 @@ pub fn check_norm_and_tests(
     successes: u64,
 ) -> Answer
     requires { ⌜ bound ≤ p64 ⌝ }
-    ensures { λ r. ⌜ r ≡ first (sqNormRule v «sq_norm_bound») (rangeRule rule p64 bound successes (now (results .entry))) ⌝ }
+    ensures { λ r. ⌜ r ≡ first (trueSqNormRule «true_sq_norm» (wordsOf norm) «sq_norm_bound») (first (sqNormRule v «sq_norm_bound») (rangeRule rule p64 bound successes (now (results .entry)))) ⌝ }
 {
-    let norm = Answer::refuse_if(sq_norm_bound < v, rules::SQ_NORM, 0);
+    let unreduced = check_true_norm(true_sq_norm, norm, sq_norm_bound);
+    let reduced = Answer::refuse_if(sq_norm_bound < v, rules::SQ_NORM, 0);
     let tests = check_results(rule, results, bound, successes);
-    norm.or(tests)
+    unreduced.or(reduced.or(tests))
 }
