@@ -6,8 +6,9 @@ use Prim.Native.Nat.{ℕ, zero, suc, _+_, _-_, _*_, _/_, _%_, _≤_, _<_, min}
 use native.Mathlib.Nat.{mod-self, zero-mod, mod-eq-of-lt}
 use native.Mathlib.Omega.{arith}
 use lib.ListN.{length, getD, take, drop, replicate, length-take, length-drop, length-replicate}
-use lib.Seq.{take-nil, drop-nil, take-all, take-take, drop-drop}
-use lib.Dec.{eqb}
+use lib.Seq.{take-nil, drop-nil, take-all, take-take, drop-drop, length-take-le}
+use lib.Dec.{eqb, leb}
+use borrow.Author.Tests.{le-leb, lt-leb}
 use Rattle.field64.specs.Field.{addMod, subMod}
 use Rattle.field64.specs.Sums.{evaluate, total}
 use Rattle.field64.proofs.Modular.{modular}
@@ -16,7 +17,7 @@ use Rattle.rows.specs.Rows.{Below}
 use Rattle.flp.specs.Bits.{groups}
 use Rattle.flp.specs.Tests.{pairs, weighed, weigh, testOf, testsOf}
 use Rattle.columns.specs.declared.Group.{Group}
-use Rattle.columns.specs.Columns.{addGroup, groupFrom}
+use Rattle.columns.specs.Columns.{addGroup, widthFor, groupFrom}
 use Rattle.flp.proofs.Tests.{tests-below}
 
 -- what a byte adds for four coordinates
@@ -130,23 +131,46 @@ cut-is {A} (suc k) (suc m) (x ∷ xs) h =
 
 -- ---- a group
 
-pub record Fits (j per d : ℕ) (g : Group) : Type 0 where
+pub record Fits (j width per d : ℕ) (g : Group) : Type 0 where
   pub goes-on : j < g .end
   pub inside : g .end ≤ per
-  pub few : g .end - j ≤ 8
+  pub few : g .end - j ≤ width
   pub in-order : g .first ≤ g .last
   pub coordinates : g .last ≤ d
-  pub few-coordinates : g .last - g .first ≤ 32
+  pub few-coordinates : g .last - g .first ≤ 4 * (g .end - j)
 
-pub group-fits : (j per d : ℕ) (g : Group) → j < per → g ≡ groupFrom j per d → Fits j per d g
-group-fits j per d g h e =
+pub group-fits : (j width per d : ℕ) (g : Group) → j < per → 0 < width → g ≡ groupFrom j width per d → Fits j width per d g
+group-fits j width per d g h some e =
     rw e (record { goes-on = omega arith; inside = omega arith; few = omega arith; in-order = omega arith; coordinates = omega arith; few-coordinates = omega arith })
 
 -- its coordinates
-pub group-cut : {A : Type 0} (j per : ℕ) (xs : List A) (g : Group) → j < per → g ≡ groupFrom j per (length xs) → take (g .last - g .first) (drop (g .first) xs) ≡ drop (4 * j) (take (4 * g .end) xs)
-group-cut j per xs g h e =
-    let l : 4 * j ≤ 4 * min (j + 8) per = omega arith in
-    rw e (cut-is (4 * j) (4 * min (j + 8) per) xs l)
+pub group-cut : {A : Type 0} (j width per : ℕ) (xs : List A) (g : Group) → j < per → g ≡ groupFrom j width per (length xs) → take (g .last - g .first) (drop (g .first) xs) ≡ drop (4 * j) (take (4 * g .end) xs)
+group-cut j width per xs g h e =
+    let l : 4 * j ≤ 4 * min (j + width) per = omega arith in
+    rw e (cut-is (4 * j) (4 * min (j + width) per) xs l)
+
+-- how many they are
+pub part-long : {A : Type 0} (first last : ℕ) (xs : List A) → first ≤ last → last ≤ length xs → length (take (last - first) (drop first xs)) ≡ last - first
+part-long first last xs h l =
+    let e : last - first ≤ length (drop first xs) = rw (length-drop first xs) (omega arith) in
+    length-take-le (last - first) (drop first xs) e
+
+-- its width
+pub width-few : (tests : ℕ) → tests ≤ 8 → widthFor tests ≡ 64
+width-few tests h = rw (le-leb tests 8 h)
+
+pub width-many : (tests : ℕ) → 8 < tests → widthFor tests ≡ 8
+width-many tests h = rw (lt-leb tests 8 h)
+
+pub width-fits : (tests width : ℕ) → width ≡ widthFor tests → (0 < width) × (width ≤ 64)
+width-fits tests width e = rw e (go (leb tests 8))
+  where
+    go : (t : Bool) → (0 < cond t 64 8) × (cond t 64 8 ≤ 64)
+    go true = (omega arith, omega arith)
+    go false = (omega arith, omega arith)
+
+pub width-same : (n width tests tests′ : ℕ) → n ≤ width → width ≡ widthFor tests → tests′ ≡ tests → n ≤ widthFor tests′
+width-same n width tests tests′ h e f = rw (f, ← e) h
 
 -- ---- what the loop over the groups needs and gives, d being the results so far
 module _ (p per : ℕ) (s xs d : List ℕ) where

@@ -3,7 +3,7 @@ use mathlib.Core.Path.{_≡_, refl, sym, ap, _∙_}
 use mathlib.Core.Bool.{Bool, true, false}
 use mathlib.Core.List.{List, [], _∷_}
 use Prim.Native.Nat.{ℕ, zero, suc, _+_, _*_, _-_, _/_, _%_, _^_, _≤_, _<_}
-use native.Mathlib.Nat.{mod-self, mod-lt, zero-mod, mod-eq-of-lt, add-mod-mod, div-div-eq-div-mul, suc-mul, mul-le-mul-right, le-of-lt}
+use native.Mathlib.Nat.{mod-self, mod-lt, zero-mod, mod-eq-of-lt, add-mod-mod, div-div-eq-div-mul, le-of-lt}
 use native.Mathlib.Numerals.{add-one}
 use native.Mathlib.Omega.{arith}
 use lib.ListN.{length, getD, take, drop, set, length-take}
@@ -106,6 +106,15 @@ undone p r e w s h z =
 halves : (b : ℕ) → b % 16 ≡ b / 4 % 4 * 4 + b % 4
 halves b = mod-mul b {m = 4} {c = 4} (omega arith) (omega arith)
 
+pub pair-0 : (b : ℕ) → b % 16 % 4 ≡ b % 4
+pair-0 b = omega (arith, halves b)
+
+pub pair-1 : (b : ℕ) → b % 16 / 4 ≡ b / 4 % 4
+pair-1 b = omega (arith, halves b)
+
+pub pair-3 : (b : ℕ) → b < 256 → b / 16 / 4 ≡ b / 64 % 4
+pair-3 b h = div-div-eq-div-mul b 16 4 ∙ sym (mod-eq-of-lt (omega arith))
+
 -- two sums that are undone
 undone-both : (p a b w z : ℕ) → (a + w) % p ≡ 0 → (b + z) % p ≡ 0 → (a + b + (w + z)) % p ≡ 0
 undone-both p a b w z f g = ap (λ (n : ℕ). n % p) (swap a b w z) ∙ add-both p (a + w) 0 (b + z) 0 (f ∙ sym (zero-mod p)) (g ∙ sym (zero-mod p)) ∙ zero-mod p
@@ -117,12 +126,9 @@ module _ (p a b c d : ℕ) (t : List ℕ) (start : ℕ) (f : (k : ℕ) → k < 1
   byte-law : (byte : ℕ) → byte < 256 → (entriesAt t start byte + column p byte a b c d) % p ≡ 0
   unfolding column evaluate
   byte-law byte h =
-      let q₀ : byte % 16 % 4 ≡ byte % 4 = omega (arith, halves byte) in
-      let q₁ : byte % 16 / 4 ≡ byte / 4 % 4 = omega (arith, halves byte) in
-      let q₃ : byte / 16 / 4 ≡ byte / 64 % 4 = div-div-eq-div-mul byte 16 4 ∙ sym (mod-eq-of-lt (omega arith)) in
       let e = undone-both p (getD t (start + byte % 16) 0) (getD t (start + 16 + byte / 16) 0) _ _ (f (byte % 16) (omega arith)) (g (byte / 16) (omega arith)) in
       in-one (entriesAt t start byte) (weighed p (byte % 4) a) (weighed p (byte / 4 % 4) b) (weighed p (byte / 16 % 4) c) (weighed p (byte / 64 % 4) d)
-      ∙ (λ i. (entriesAt t start byte + (weighed p (sym q₀ i) a + weighed p (sym q₁ i) b + (weighed p (byte / 16 % 4) c + weighed p (sym q₃ i) d))) % p)
+      ∙ (λ i. (entriesAt t start byte + (weighed p (sym (pair-0 byte) i) a + weighed p (sym (pair-1 byte) i) b + (weighed p (byte / 16 % 4) c + weighed p (sym (pair-3 byte h) i) d))) % p)
       ∙ e
     where
       in-one : (r w x y z : ℕ) → (r + addMod p w ((1 * addMod p x ((1 * addMod p y ((1 * addMod p z ((1 * 0) % p)) % p)) % p)) % p)) % p ≡ (r + (w + x + (y + z))) % p
@@ -191,10 +197,6 @@ tables-next p i xs t t₀ a b ea eb f g w m h k l = go (ltb m i) refl
         let q : m ≡ i = omega (arith, ltb-false m i e) in
         rw (q, ← ea, ← eb) (f k l)
 
--- the bytes of test i lie within the stream
-pub bytes-inside : (i T per j n l : ℕ) → i < T → j + n ≤ per → T * per ≤ l → i * per + j + n ≤ l
-bytes-inside i T per j n l h g m = omega (arith, suc-mul i per, mul-le-mul-right per h)
-
 -- the next of n bytes, two carries for each
 pub step-le : (k n : ℕ) → k < n → k + 1 ≤ n
 step-le k n h = omega arith
@@ -217,19 +219,3 @@ bytes-next t bytes k all s s′ h e f =
   where
     joined : (s a r : ℕ) → s + a + r ≡ s + (a + r)
     joined s a r = omega arith
-
--- a group, by its elements
-module _ (p : ℕ) (t : List ℕ) (per j n : ℕ) where
-  pub length-less : (s row : List ℕ) → length (lessGroup p t per j n s row) ≡ length row
-  length-less s [] = refl
-  length-less s (r ∷ row) = ap suc (length-less (drop per s) row)
-
-  pub getD-less : (s row : List ℕ) (i : ℕ) → i < length row → getD (lessGroup p t per j n s row) i 0 ≡ lessEntries p t (take n (drop (i * per + j) s)) (getD row i 0)
-  getD-less s [] i h = absurd (omega arith)
-  getD-less s (r ∷ row) zero h =
-      let on : j ≡ 0 * per + j = omega arith in
-      ap (λ (k : ℕ). lessEntries p t (take n (drop k s)) r) on
-  getD-less s (r ∷ row) (suc i) h =
-      let on : per + (i * per + j) ≡ suc i * per + j = omega (arith, suc-mul i per) in
-      getD-less (drop per s) row i (omega arith)
-      ∙ ap (λ (bytes : List ℕ). lessEntries p t (take n bytes) (getD row i 0)) (drop-drop (i * per + j) per s ∙ ap (λ (k : ℕ). drop k s) on)

@@ -1,26 +1,37 @@
--- `columns::add_group` meets its contract. Assumes nothing.
-use mathlib.Core.Path.{_∙_}
-use Prim.Native.Nat.{_*_}
+-- `columns::add_group` meets its contract, by either form. Assumes nothing.
+use mathlib.Core.Path.{_≡_}
+use Prim.Native.Nat.{_-_, _*_, _≤_}
+use native.Mathlib.Nat.{sub-zero}
 use native.Mathlib.Omega.{arith}
+use lib.ListN.{length}
+use lib.Seq.{length-take-le}
+use Rattle.columns.proofs.Swapped.{width-few, width-many}
 use borrow.Author.Needs.{needs}
-use lib.Dec.{lit<}
-use Rattle.field64.specs.Field.{p64}
-use Rattle.rows.proofs.Elements.{below-all}
-use Rattle.columns.proofs.Tables.{group-law}
 use Rattle.columns.proofs.add_group.Statement.{statement}
 use Rattle.columns.proofs.add_group.Tie as tie
 
-mul-write-tables : tie.Need-mul-write-tables
-mul-write-tables c = search needs
+few : (c : tie.Then1) → c .before .before .before .before .before .args .n ≤ 64
+few c = omega (arith, c .before .before .before .before .before .pre .0 .1 .1, width-few _ (c .if1 .taken))
 
-write-tables-requires : tie.Need-write-tables-requires
-write-tables-requires c κs = search needs
+mul-count : tie.Need-mul-count
+mul-count c = record { fits = omega (arith, few c) }
 
-less-group-requires : tie.Need-less-group-requires
-less-group-requires c κs =
-    let s = c .before .before .before .before .before .before .before .before .before .before in
-    let t = c .before .before .before .before .write-tables in
-    ((s .pre .0 .0, (s .pre .0 .1 .0, omega (arith, s .pre .0 .1 .1, t .kept .1 .1 .0))), s .pre .1 .1)
+sub-add-weighed : tie.Need-sub-add-weighed
+sub-add-weighed c = search needs
+
+part-add-weighed-start : tie.Need-part-add-weighed-start
+part-add-weighed-start c = search needs
+
+part-add-weighed-end : tie.Need-part-add-weighed-end
+part-add-weighed-end c = omega (arith, few c, c .before .before .before .before .before .pre .1 .0 .1 .1)
+
+add-weighed-requires : tie.Need-add-weighed-requires
+add-weighed-requires c κs =
+    let i = c .before .before in
+    let s = i .before .before .before .before .before in
+    let n = s .args .n in
+    let room : 4 * n ≤ length (s .args .spare .now) = omega (arith, few i, s .pre .1 .0 .1 .1) in
+    ((s .pre .0 .0, (s .pre .0 .1 .0, rw (sub-zero (4 * n)) (length-take-le (4 * n) (s .args .spare .now) room))), ((s .pre .1 .0 .0, (omega (arith, few i, s .pre .1 .0 .1 .0), s .pre .1 .0 .1 .0)), s .pre .1 .1))
 
 same-length : tie.Need-same-length
 same-length c = search needs
@@ -29,20 +40,36 @@ same-length-2 : tie.Need-same-length-2
 same-length-2 c = search needs
 
 returns : tie.Need-returns
-returns c =
-    let s = c .before .before .before .before .before .before .before .before .before .before .before .before .before in
-    let t = c .before .before .before .before .before .before .before .write-tables in
-    let bytes = below-all 256 (s .args .stream .now) (λ k h. c .before .before .before .before .before .before .before .before .before .before .before .shared-slice-known2 .given k .fits) in
-    c .before .before .less-group .ensures
-    ∙ group-law p64 (2 * s .args .n) (s .args .xs .now) (t .last .1 .1 .0) (lit< tt) (t .ensures) (s .args .per) (s .args .j) (s .args .n) (s .args .stream .now) (s .args .results .now) (omega arith) bytes
+returns c = search needs
+
+add-tabled-requires : tie.Need-add-tabled-requires
+add-tabled-requires c κs =
+    let i = c .before .before in
+    let s = i .before .before .before .before .before in
+    ((s .pre .0 .0, (s .pre .0 .1 .0, omega (arith, s .pre .0 .1 .1, width-many _ (i .if1 .left), s .pre .1 .0 .1 .1))), (s .pre .1 .0 .0, s .pre .1 .1))
+
+same-length-3 : tie.Need-same-length-3
+same-length-3 c = search needs
+
+same-length-4 : tie.Need-same-length-4
+same-length-4 c = search needs
+
+returns-2 : tie.Need-returns-2
+returns-2 c = search needs
 
 pub add-group-spec : {M : Type 1} → statement M
 add-group-spec =
     tie.close
     (tie.spec
-    mul-write-tables
-    write-tables-requires
-    less-group-requires
+    mul-count
+    sub-add-weighed
+    part-add-weighed-start
+    part-add-weighed-end
+    add-weighed-requires
     same-length
     same-length-2
-    returns)
+    returns
+    add-tabled-requires
+    same-length-3
+    same-length-4
+    returns-2)

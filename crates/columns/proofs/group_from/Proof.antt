@@ -26,10 +26,10 @@ at-most-requires-3 : tie.Need-at-most-requires-3
 at-most-requires-3 c κs = search needs
 
 returns : tie.Need-returns
-returns c = made _ _ _ _ _ _ (c .before .before .at-most .ensures) (c .before .at-most2 .ensures) (c .at-most3 .ensures)
+returns c = made _ _ _ _ _ _ _ (c .before .before .at-most .ensures) (c .before .at-most2 .ensures) (c .at-most3 .ensures)
   where
-    made : (j per d end first last : ℕ) → end ≡ min (j + 8) per → first ≡ min (4 * j) d → last ≡ min (4 * end) d → _≡_ {A = Group} (record { end = end; first = first; last = last }) (groupFrom j per d)
-    made j per d end first last e f l = rw (l, f, e)
+    made : (j width per d end first last : ℕ) → end ≡ min (j + width) per → first ≡ min (4 * j) d → last ≡ min (4 * end) d → _≡_ {A = Group} (record { end = end; first = first; last = last }) (groupFrom j width per d)
+    made j width per d end first last e f l = rw (l, f, e)
 
 pub group-from-spec : {M : Type 1} → statement M
 group-from-spec =
