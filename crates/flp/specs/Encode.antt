@@ -1,15 +1,16 @@
 -- Encoding a gradient (document 01, "The gradient and norm bits", "The test bits"). Assumes nothing.
-use Prim.Native.Nat.{ℕ, zero, suc, _+_, _-_}
+use Prim.Native.Nat.{ℕ, zero, suc, _+_, _-_, _*_}
 use mathlib.Core.Bool.{Bool, cond, _||_}
 use mathlib.Core.List.{List, [], _∷_, _++_, map}
 use lib.ListN.{length}
 use lib.Dec.{eqb, ltb, leb}
+use lib.IntN.{natAbs}
 use lib.Ieee.{Float}
 use Rattle.rules.specs.declared.Answer.{Answer}
 use Rattle.rules.specs.Rules.{answer, accepted, refuse, inOrder}
 use Rattle.field64.specs.Field.{addMod, subMod, mulMod}
 use Rattle.field64.specs.Sums.{total}
-use Rattle.doubles.specs.Doubles.{coordinateRule, element}
+use Rattle.doubles.specs.Doubles.{floorOf, coordinateRule, element}
 use Rattle.pine.specs.declared.PineParam.{PineParam}
 use Rattle.pine.specs.Param.{Field, paramAnswer}
 use Rattle.pine.specs.Record.{sqNormBound, sqNormBits, wrTestBound, wrTestBits, encodedInputLen, bytesPerTest, streamLen}
@@ -24,6 +25,11 @@ elements p f gradient = map (λ x. element p x f) gradient
 -- v, the sum of squares in the field
 unfoldable pub sqNorm : (p : ℕ) (xs : List ℕ) → ℕ
 sqNorm p xs = total p (map (λ x. mulMod p x x) xs)
+
+-- the true squared length: the squares of the floors as whole numbers, added without reduction
+unfoldable pub trueSqNorm : (f : ℕ) → List Float → ℕ
+trueSqNorm f [] = 0
+trueSqNorm f (x ∷ xs) = natAbs (floorOf x f) * natAbs (floorOf x f) + trueSqNorm f xs
 
 -- the success bit of a test, k of these still to be given
 abbrev pub success : (k : ℕ) → ℕ
