@@ -44,7 +44,7 @@ at j r = getD r j 0
 abbrev pub Differs : (z : ℤ) (a b : ℕ) → Type 0
 Differs z a b = plus z + b ≡ minus z + a
 
-pub opposite : (z : ℤ) → (plus (negℤ z) ≡ minus z) × (minus (negℤ z) ≡ plus z)
+opposite : (z : ℤ) → (plus (negℤ z) ≡ minus z) × (minus (negℤ z) ≡ plus z)
 opposite (pos zero) = (refl, refl)
 opposite (pos (suc n)) = (refl, refl)
 opposite (negsuc n) = (refl, refl)

@@ -6,7 +6,7 @@ use Prim.Native.Nat.{ℕ, zero, suc, _+_, _-_, _*_, _^_, _≤_, _<_}
 use native.Mathlib.Nat.{le-trans, le-of-eq, lt-of-lt-of-le, eq-or-lt-of-le, mul-comm, mul-assoc, zero-mul, one-mul, mul-sub, mul-le-mul-right, mul-right-comm, sub-add-cancel}
 use native.Mathlib.Omega.{arith}
 use lib.Dec.{ltb, lit<, lit≤}
-use lib.IntN.{ℤ, pos, negsuc, negℤ, natAbs, subℕ, _-ℤ_, _*ℤ_, pos-*ℤ-pos, negsuc-*ℤ-pos, zero-*ℤ}
+use lib.IntN.{ℤ, pos, negsuc, negℤ, natAbs, subℕ, _+ℤ_, _-ℤ_, _*ℤ_, pos-*ℤ-pos, negsuc-*ℤ-pos, zero-*ℤ}
 use lib.Pow.{pow-add, pow-pos, pow-lt, pow-mono, shl-lt}
 use lib.Ieee.{Float, nan, inf, fin, Format, binary32, binary64, prec, emax, low, up, down, round}
 use lib.Ieee.Exact.{HasValue, round-exact}
@@ -16,21 +16,28 @@ use Rattle.doubles.proofs.Nearest.{roundedOver, rounded-once}
 use Rattle.correctness.specs.Correctness.{nearestOver}
 use Rattle.sensitivity.specs.Sensitivity.{square, Exactly, Within}
 use Rattle.correctness.proofs.Centred.{plus, minus, sum-parts}
-use Rattle.correctness.proofs.Tally.{opposite}
 
 -- ---- whole numbers
 
--- |y - z| is at most |y| + |z|
-pub triangle : (y z : ℤ) → natAbs (y -ℤ z) ≤ natAbs y + natAbs z
-triangle y z = small (y -ℤ z) (plus y) (minus y) (plus z) (minus z) (omega (arith, sum-parts y (negℤ z), opposite z .0, opposite z .1)) (size y) (size z)
+-- |y + z| and |y - z| are at most |y| + |z|
+pub triangle-sum : (y z : ℤ) → natAbs (y +ℤ z) ≤ natAbs y + natAbs z
+triangle-sum y z = small (y +ℤ z) (plus y) (minus y) (plus z) (minus z) (sum-parts y z) (size y) (size z)
   where
     size : (z : ℤ) → natAbs z ≡ plus z + minus z
     size (pos n) = omega arith
     size (negsuc n) = omega arith
 
-    small : (s : ℤ) (a b c d : ℕ) → plus s + (b + c) ≡ minus s + (a + d) → natAbs y ≡ a + b → natAbs z ≡ c + d → natAbs s ≤ natAbs y + natAbs z
+    small : (s : ℤ) (a b c d : ℕ) → plus s + (b + d) ≡ minus s + (a + c) → natAbs y ≡ a + b → natAbs z ≡ c + d → natAbs s ≤ natAbs y + natAbs z
     small (pos n) a b c d e f g = omega arith
     small (negsuc n) a b c d e f g = omega arith
+
+size-of-negative : (z : ℤ) → natAbs (negℤ z) ≡ natAbs z
+size-of-negative (pos zero) = refl
+size-of-negative (pos (suc n)) = refl
+size-of-negative (negsuc n) = refl
+
+pub triangle : (y z : ℤ) → natAbs (y -ℤ z) ≤ natAbs y + natAbs z
+triangle y z = le-trans (triangle-sum y (negℤ z)) (le-of-eq (ap (λ (n : ℕ). natAbs y + n) (size-of-negative z)))
 
 -- (a + b)² is at most 2a² + 2b²
 squares-of-sum : (a b : ℕ) → (a + b) * (a + b) ≤ 2 * (a * a) + 2 * (b * b)

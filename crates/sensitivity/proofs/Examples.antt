@@ -22,7 +22,7 @@ use Rattle.flp.specs.Encode.{elements, sqNorm, trueSqNorm, testBits, resultsOf,
 use Rattle.vdaf.specs.Aggregates.{emptyAnswer, emptyOf, accumulateAnswer, accumulateOf, subtractOf, decodedSums, unshardAnswer, unshardOf}
 use Rattle.correctness.specs.Table.{double, param, none, one, large}
 use Rattle.correctness.specs.Tally.{nothing, Call, Aggregates, step, run, Begun, Joined}
-use Rattle.correctness.specs.Correctness.{sumℤ, nearestOver, Report, sharesOf}
+use Rattle.correctness.specs.Correctness.{sumℤ, nearestOver, Report, sharesOf, floorsSum}
 use Rattle.correctness.proofs.Examples.{joins, row-of}
 use Rattle.sensitivity.specs.Sensitivity.{Short, Within, Exactly, Replaced, Removed, squaredDistance, Summed, decodedAt}
 use Rattle.sensitivity.proofs.Moves.{moved-sums, moved-doubles-64}
@@ -150,10 +150,12 @@ record Totals : Type 0 where
   replaced-total : squaredDistance Field64 inputs with-east with-west ≡ 4 * sqNormBound inputs
   slanting-total : squaredDistance Field64 inputs (up ∷ []) (down ∷ []) ≡ 4 * sqNormBound inputs
   removed-total : squaredDistance Field64 inputs with-east without ≡ sqNormBound inputs
+  -- two reports, 5 each
+  two-sum : natAbs (floorsSum Field64 inputs 0 (east ∷ east ∷ [])) ≡ 2 * inputs .«norm_bound»
 
 totals : Totals
 unfolding sqNormBound sumℤ floorOf floorDiv ofBits made east west up down short
-totals = record { replaced-total = refl; slanting-total = refl; removed-total = refl }
+totals = record { replaced-total = refl; slanting-total = refl; removed-total = refl; two-sum = refl }
 
 -- by the theorem
 apart : squaredDistance Field64 inputs with-east with-west ≤ 4 * sqNormBound inputs

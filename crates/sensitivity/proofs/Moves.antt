@@ -7,7 +7,7 @@ use native.Mathlib.Nat.{le-trans, le-of-eq, zero-mul, zero-div}
 use native.Mathlib.Omega.{arith}
 use lib.Dec.{lit≤}
 use lib.IntN.{ℤ, pos, negℤ, natAbs, ℤ-set, _+ℤ_, _-ℤ_, +ℤ-assoc, +ℤ-comm, negℤ-+ℤ, +ℤ-negℤ-cancel, -ℤ-+ℤ-cancel}
-use lib.ListN.{getD}
+use lib.ListN.{length, getD}
 use lib.Ieee.{Float}
 use Rattle.rules.specs.Rules.{accepted}
 use Rattle.rules.proofs.Chain.{none}
@@ -17,10 +17,11 @@ use Rattle.pine.specs.Param.{Field, Field64, paramAnswer}
 use Rattle.pine.specs.Record.{sqNormBound}
 use Rattle.pine.proofs.Limits.{limits}
 use Rattle.flp.specs.Encode.{trueSqNorm}
+use Rattle.correctness.specs.Tally.{Each}
 use Rattle.correctness.specs.Correctness.{sumℤ, nearestOver, Report, floorAt, floorsSum, Decodes, Correctness}
 use Rattle.correctness.proofs.Correctness.{correctness-64}
-use Rattle.sensitivity.specs.Sensitivity.{square, overAll, Short, Exactly, Replaced, Removed, squaredDistance, Summed, unsharded, decodedAt, Exact, Close, Sums, Doubles}
-use Rattle.sensitivity.proofs.Distance.{triangle, square-of-difference, root, nearest-exactly, nearest-within}
+use Rattle.sensitivity.specs.Sensitivity.{square, overAll, Short, Exactly, Replaced, Removed, squaredDistance, Summed, unsharded, decodedAt, Exact, Close, MovedSums, MovedDoubles}
+use Rattle.sensitivity.proofs.Distance.{triangle-sum, triangle, square-of-difference, root, nearest-exactly, nearest-within}
 
 -- ---- sums of whole numbers
 
@@ -84,6 +85,16 @@ module _ (F : Field) (i : PineParam) where
     unfolding sqNormBound
     short-floor j h = root (natAbs (floorAt F i j r)) (i .«norm_bound») (le-trans (one-of d (λ j. square (floorAt F i j r)) j h) short-total)
 
+  -- ---- the sum of a coordinate over short reports
+
+  short-sum : (reports : List (Report F i)) → Each (λ r. Short i (r .gradient)) reports → (j : ℕ) → j < d → natAbs (floorsSum F i j reports) ≤ length reports * i .«norm_bound»
+  unfolding sumℤ
+  short-sum [] s j h = omega arith
+  short-sum (r ∷ rs) s j h = more _ _ _ (length rs) (i .«norm_bound») (triangle-sum (floorAt F i j r) (floorsSum F i j rs)) (short-floor r (s .0) j h) (short-sum rs (s .1) j h)
+    where
+      more : (a b c m n : ℕ) → a ≤ b + c → b ≤ n → c ≤ m * n → a ≤ suc m * n
+      more a b c m n h k l = omega arith
+
   -- ---- the differences of the sums of floors
 
   module _ (xs ys : List (Report F i)) where
@@ -122,8 +133,8 @@ module _ (F : Field) (i : PineParam) where
     removed-one : Removed F i xs ys → (j : ℕ) → j < d → natAbs (floorsSum F i j xs -ℤ floorsSum F i j ys) ≤ i .«norm_bound»
     removed-one q j h = le-trans (le-of-eq (ap natAbs (removed-by q j))) (short-floor (q .one) (q .one-short) j h)
 
-pub moved-sums : Sums
-moved-sums = record { replaced = replaced-total; removed = removed-total }
+pub moved-sums : MovedSums
+moved-sums = record { replaced = replaced-total; removed = removed-total; small = short-sum }
 
 -- ---- the doubles, over a field of which demand 3 holds and that has room for sums within 2 ^ 53 of zero
 
@@ -149,12 +160,12 @@ module _ (F : Field) (holds : Correctness F) (room : 2 ^ 53 ≤ (F .p - 1) / 2) 
   close xs ys a b most near j h k l =
       rw (nearest xs a j h k, nearest ys b j h l) (nearest-within (i .«frac_bits») (floorsSum F i j xs) (floorsSum F i j ys) most fraction k l (near j h))
 
-pub moved-doubles : (F : Field) → Correctness F → 2 ^ 53 ≤ (F .p - 1) / 2 → Doubles F
+pub moved-doubles : (F : Field) → Correctness F → 2 ^ 53 ≤ (F .p - 1) / 2 → MovedDoubles F
 moved-doubles F holds room = record {
   exact = exact F holds room;
   replaced = λ i ok xs ys q a b. close F holds room i ok xs ys a b (2 * i .«norm_bound») (replaced-one F i xs ys q);
   removed = λ i ok xs ys q a b. close F holds room i ok xs ys a b (i .«norm_bound») (removed-one F i xs ys q);
 }
 
-pub moved-doubles-64 : Doubles Field64
+pub moved-doubles-64 : MovedDoubles Field64
 moved-doubles-64 = moved-doubles Field64 correctness-64 (lit≤ tt)

@@ -12,7 +12,7 @@ use Rattle.pine.specs.Param.{Field, paramAnswer}
 use Rattle.pine.specs.Record.{sqNormBound}
 use Rattle.flp.specs.Encode.{elements, sqNorm, trueSqNorm, encodeAnswer}
 use Rattle.vdaf.specs.Aggregates.{UnshardOutcome, unshardOf}
-use Rattle.correctness.specs.Tally.{Call, Aggregates, run, Begun, Joined}
+use Rattle.correctness.specs.Tally.{Call, Aggregates, run, Begun, Each, Joined}
 use Rattle.correctness.specs.Correctness.{Report, sharesOf, floorsSum}
 
 -- ---- true lengths
@@ -64,7 +64,7 @@ module _ (F : Field) (i : PineParam) where
     pub one-short : Short i (one .gradient)
     pub other-short : Short i (other .gradient)
 
-  -- in some order the first is the second with one report more, a short one
+  -- in some order the first is the second with one report more, a short one (distances are the same from either side)
   pub record Removed (xs ys : List (Report F i)) : Type 0 where
     pub one : Report F i
     pub first : Perm xs (one ∷ ys)
@@ -111,12 +111,16 @@ module _ (F : Field) (i : PineParam) where
 -- ---- how far they are apart
 
 -- the sums of floors, over every field and for any inputs
-pub record Sums : Type 0 where
+pub record MovedSums : Type 0 where
+  -- with one report in place of another; with one report less, or more
   pub replaced : (F : Field) (i : PineParam) (xs ys : List (Report F i)) → Replaced F i xs ys → squaredDistance F i xs ys ≤ 4 * sqNormBound i
   pub removed : (F : Field) (i : PineParam) (xs ys : List (Report F i)) → Removed F i xs ys → squaredDistance F i xs ys ≤ sqNormBound i
+  -- of short reports alone: n in size for each report, at the most. So k reports have sums within 2 ^ 53 of zero, where k · n is at most 2 ^ 53
+  pub small : (F : Field) (i : PineParam) (reports : List (Report F i)) → Each (λ r. Short i (r .gradient)) reports → (j : ℕ) → j < i .dimension → natAbs (floorsSum F i j reports) ≤ length reports * i .«norm_bound»
 
--- the doubles, for all accepted inputs, however the two batches were summed
-pub record Doubles (F : Field) : Type 0 where
+-- the doubles, for all accepted inputs, however the batches were summed
+pub record MovedDoubles (F : Field) : Type 0 where
   pub exact : (i : PineParam) → paramAnswer F i ≡ accepted → (reports : List (Report F i)) (s : Summed F i reports) → Exact F i reports s
+  -- with one report in place of another; with one report less, or more
   pub replaced : (i : PineParam) → paramAnswer F i ≡ accepted → (xs ys : List (Report F i)) → Replaced F i xs ys → (a : Summed F i xs) (b : Summed F i ys) → Close F i xs ys a b (2 * i .«norm_bound»)
   pub removed : (i : PineParam) → paramAnswer F i ≡ accepted → (xs ys : List (Report F i)) → Removed F i xs ys → (a : Summed F i xs) (b : Summed F i ys) → Close F i xs ys a b (i .«norm_bound»)
