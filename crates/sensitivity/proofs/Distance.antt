@@ -3,7 +3,7 @@ use mathlib.Core.Path.{_≡_, refl, sym, ap, subst, _∙_}
 use mathlib.Core.Logic.{_⊎_, inl, inr}
 use mathlib.Core.Bool.{Bool, true, false, cond}
 use Prim.Native.Nat.{ℕ, zero, suc, _+_, _-_, _*_, _^_, _≤_, _<_}
-use native.Mathlib.Nat.{le-trans, le-of-eq, lt-of-lt-of-le, eq-or-lt-of-le, mul-comm, mul-assoc, zero-mul, one-mul, mul-sub, mul-le-mul-right, mul-right-comm, sub-add-cancel}
+use native.Mathlib.Nat.{le-trans, le-of-eq, le-of-lt, lt-of-lt-of-le, eq-or-lt-of-le, mul-comm, mul-assoc, zero-mul, one-mul, mul-sub, mul-le-mul-right, mul-right-comm, sub-add-cancel}
 use native.Mathlib.Omega.{arith}
 use lib.Dec.{ltb, lit<, lit≤}
 use lib.IntN.{ℤ, pos, negsuc, negℤ, natAbs, subℕ, _+ℤ_, _-ℤ_, _*ℤ_, pos-*ℤ-pos, negsuc-*ℤ-pos, zero-*ℤ}
@@ -129,7 +129,7 @@ distance-times true false x y c = omega arith
 -- ---- doubles
 
 -- two fractions over S, and how far their numerators are apart
-pub within-of : (x y : Float) (s t : Bool) (a b S most : ℕ) → HasValue x s a S → HasValue y t b S → natAbs (signed s a -ℤ signed t b) ≤ most → Within x y most S
+within-of : (x y : Float) (s t : Bool) (a b S most : ℕ) → HasValue x s a S → HasValue y t b S → natAbs (signed s a -ℤ signed t b) ≤ most → Within x y most S
 within-of nan y s t a b S most h k l = absurd h
 within-of (inf u) y s t a b S most h k l = absurd h
 within-of (fin u m e) nan s t a b S most h k l = absurd k
@@ -160,32 +160,35 @@ module _ (b : Format) (s : Bool) (k : ℕ) (room : k ≤ low b) where
   one-less binary32 = lit< tt
   one-less binary64 = lit< tt
 
-  lower : (p l e : ℕ) → p < e → p + (l - k) < l + e
-  lower p l e h = omega arith
+  not-too-large : prec b + (low b - k) < low b + suc (emax b)
+  not-too-large = go (prec b) (low b) (suc (emax b)) (fine b)
+    where
+      go : (p l e : ℕ) → p < e → p + (l - k) < l + e
+      go p l e h = omega arith
 
   exact-over : (n : ℕ) → n ≤ 2 ^ prec b → HasValue (round b s n (2 ^ k)) s n (2 ^ k)
   exact-over n h = go (eq-or-lt-of-le h)
     where
-      go : (n ≡ 2 ^ prec b) ⊎ (n < 2 ^ prec b) → HasValue (round b s n (2 ^ k)) s n (2 ^ k)
-      go (inl e) =
-          subst (λ (x : ℕ). HasValue (round b s x (2 ^ k)) s x (2 ^ k)) (sym e)
-          (round-exact b s (2 ^ prec b) (2 ^ k) 1 (prec b + (low b - k)) (pow-pos k) (one-less b)
-          (subst (λ (x : ℕ). x < 2 ^ (low b + suc (emax b))) (sym (one-mul (2 ^ (prec b + (low b - k))))) (pow-lt (lower (prec b) (low b) (suc (emax b)) (fine b))))
-          (ap (λ (x : ℕ). 2 ^ prec b * x) (sym split) ∙ sym (mul-assoc (2 ^ prec b) (2 ^ (low b - k)) (2 ^ k)) ∙ ap (λ (x : ℕ). x * 2 ^ k) (sym (one-mul (2 ^ prec b * 2 ^ (low b - k)) ∙ refl) ∙ ap (λ (x : ℕ). 1 * x) (sym (pow-add 2 (prec b) (low b - k))))))
-      go (inr l) =
-          round-exact b s n (2 ^ k) n (low b - k) (pow-pos k) l
-          (lt-of-lt-of-le (shl-lt (prec b) (low b - k) l) (pow-mono (below (prec b) (low b) (suc (emax b)) (fine b))))
-          (ap (λ (x : ℕ). n * x) (sym split) ∙ sym (mul-assoc n (2 ^ (low b - k)) (2 ^ k)))
-        where
-          below : (p l e : ℕ) → p < e → p + (l - k) ≤ l + e
-          below p l e h = omega arith
+      units-of : (n : ℕ) → n * 2 ^ low b ≡ n * 2 ^ (low b - k) * 2 ^ k
+      units-of n = ap (λ (x : ℕ). n * x) (sym split) ∙ sym (mul-assoc n (2 ^ (low b - k)) (2 ^ k))
 
-abbrev pub negative : ℤ → Bool
+      -- 2 ^ prec is one unit of 2 ^ prec
+      largest : HasValue (round b s (2 ^ prec b) (2 ^ k)) s (2 ^ prec b) (2 ^ k)
+      largest =
+          let j = prec b + (low b - k) in
+          let e : 1 * 2 ^ j ≡ 2 ^ prec b * 2 ^ (low b - k) = one-mul (2 ^ j) ∙ pow-add 2 (prec b) (low b - k) in
+          round-exact b s (2 ^ prec b) (2 ^ k) 1 j (pow-pos k) (one-less b) (subst (λ (x : ℕ). x < 2 ^ (low b + suc (emax b))) (sym (one-mul (2 ^ j))) (pow-lt not-too-large)) (units-of (2 ^ prec b) ∙ ap (λ (x : ℕ). x * 2 ^ k) (sym e))
+
+      go : (n ≡ 2 ^ prec b) ⊎ (n < 2 ^ prec b) → HasValue (round b s n (2 ^ k)) s n (2 ^ k)
+      go (inl e) = subst (λ (x : ℕ). HasValue (round b s x (2 ^ k)) s x (2 ^ k)) (sym e) largest
+      go (inr l) = round-exact b s n (2 ^ k) n (low b - k) (pow-pos k) l (lt-of-lt-of-le (shl-lt (prec b) (low b - k) l) (pow-mono (le-of-lt not-too-large))) (units-of n)
+
+abbrev negative : ℤ → Bool
 negative (pos n) = false
 negative (negsuc n) = true
 
 -- so the double that stands for z over 2 ^ f is z / 2 ^ f
-pub nearest-exact : (f : ℕ) (z : ℤ) → f ≤ 30 → natAbs z ≤ 2 ^ 53 → HasValue (nearestOver f z) (negative z) (natAbs z) (2 ^ f)
+nearest-exact : (f : ℕ) (z : ℤ) → f ≤ 30 → natAbs z ≤ 2 ^ 53 → HasValue (nearestOver f z) (negative z) (natAbs z) (2 ^ f)
 nearest-exact f z h l = subst (λ (x : Float). HasValue x (negative z) (natAbs z) (2 ^ f)) (sym (rounded-once z f (lt-of-lt-of-le (next (natAbs z) l) (lit≤ tt)) h)) (go z l)
   where
     next : (n : ℕ) → n ≤ 2 ^ 53 → n < 2 ^ 53 + 1
@@ -204,7 +207,7 @@ scaled false a c = sym (pos-*ℤ-pos a c)
 scaled true zero c = ap (λ (n : ℕ). negℤ (pos n)) (zero-mul c) ∙ sym (zero-*ℤ (pos c))
 scaled true (suc a) c = sym (negsuc-*ℤ-pos a c)
 
-pub exactly-of : (x : Float) (s : Bool) (a c : ℕ) → HasValue x s a c → Exactly x (signed s a) c
+exactly-of : (x : Float) (s : Bool) (a c : ℕ) → HasValue x s a c → Exactly x (signed s a) c
 exactly-of nan s a c h = absurd h
 exactly-of (inf t) s a c h = absurd h
 exactly-of (fin t m e) s a c h = (λ i. signed (h .0 i) (h .1 i)) ∙ scaled s a (down e)

@@ -72,7 +72,7 @@ made gradient measurement call long rest-long rest-below adds = record {
   adds = adds;
 }
 
--- 2.5, -2.5, 1.5, 2.0, -1.5, -2.0, 0.5
+-- 2.5, 0.0; -2.5, 0.0; 1.5, 2.0; -1.5, -2.0; 0.5, 1.0
 abbrev east-gradient : List Float
 east-gradient = double 0x4004_0000_0000_0000 ∷ none ∷ []
 
@@ -157,7 +157,7 @@ totals : Totals
 unfolding sqNormBound sumℤ floorOf floorDiv ofBits made east west up down short
 totals = record { replaced-total = refl; slanting-total = refl; removed-total = refl; two-sum = refl }
 
--- by the theorem
+-- by the theorem at most that
 apart : squaredDistance Field64 inputs with-east with-west ≤ 4 * sqNormBound inputs
 apart = moved-sums .replaced Field64 inputs with-east with-west replaced
 
@@ -173,25 +173,32 @@ begun : (k : ℕ) → Begun Field64 2 (empties k)
 unfolding emptyOf emptyAnswer paramAnswer paramRules
 begun k = record { inputs = inputs; found = 7 ∷ p64 ∷ []; long = refl; call = refl; none = λ r. refl }
 
--- the two shares of floors x, y
+-- the shares in adding: the left one, and each report's right one
 abbrev left-share : List ℕ
 left-share = 9 ∷ 9 ∷ []
 
-abbrev right-share : (x y : ℕ) → List ℕ
-right-share x y = x ∷ y ∷ []
+abbrev east-share : List ℕ
+east-share = (p64 - 4) ∷ (p64 - 9) ∷ []
 
-abbrev both-added : (x y : ℕ) → List Call → List Call
-both-added x y more = Call.accumulate 0 inputs left-share ∷ Call.accumulate 1 inputs (right-share x y) ∷ more
+abbrev west-share : List ℕ
+west-share = (p64 - 14) ∷ (p64 - 9) ∷ []
+
+abbrev short-share : List ℕ
+short-share = (p64 - 8) ∷ (p64 - 7) ∷ []
+
+-- each to an aggregate of its own
+abbrev both-added : (right : List ℕ) → List Call → List Call
+both-added right more = Call.accumulate 0 inputs left-share ∷ Call.accumulate 1 inputs right ∷ more
 
 abbrev east-calls : List Call
-east-calls = both-added (p64 - 4) (p64 - 9) (both-added (p64 - 8) (p64 - 7) [])
+east-calls = both-added east-share (both-added short-share [])
 
 abbrev west-calls : List Call
-west-calls = both-added (p64 - 8) (p64 - 7) (both-added (p64 - 14) (p64 - 9) [])
+west-calls = both-added west-share (both-added short-share [])
 
 -- east is added, and withdrawn
 abbrev withdrawn-calls : List Call
-withdrawn-calls = both-added (p64 - 4) (p64 - 9) (both-added (p64 - 8) (p64 - 7) (Call.subtract 1 inputs (right-share (p64 - 4) (p64 - 9)) ∷ Call.subtract 0 inputs left-share ∷ []))
+withdrawn-calls = both-added east-share (both-added short-share (Call.subtract 1 inputs east-share ∷ Call.subtract 0 inputs left-share ∷ []))
 
 abbrev JoinedBy : List Call → List (Report Field64 inputs) → Type 0
 JoinedBy calls reports = Joined (run Field64 empties calls 0 .tally) (run Field64 empties calls 1 .tally) (sharesOf Field64 inputs reports)
@@ -199,19 +206,19 @@ JoinedBy calls reports = Joined (run Field64 empties calls 0 .tally) (run Field6
 east-joined : JoinedBy east-calls with-east
 unfolding run step accumulateOf accumulateAnswer paramAnswer paramRules made east short
 east-joined =
-    joins (run Field64 empties east-calls 0 .tally) (run Field64 empties east-calls 1 .tally) (sharesOf Field64 inputs with-east) (left-share ∷ right-share (p64 - 4) (p64 - 9) ∷ right-share (p64 - 8) (p64 - 7) ∷ [])
+    joins (run Field64 empties east-calls 0 .tally) (run Field64 empties east-calls 1 .tally) (sharesOf Field64 inputs with-east) (left-share ∷ east-share ∷ short-share ∷ [])
     (refl, (refl, (refl, tt))) (λ r e. rw (e .0, e .1 .0, e .1 .1 .0))
 
 west-joined : JoinedBy west-calls with-west
 unfolding run step accumulateOf accumulateAnswer paramAnswer paramRules made west short
 west-joined =
-    joins (run Field64 empties west-calls 0 .tally) (run Field64 empties west-calls 1 .tally) (sharesOf Field64 inputs with-west) (left-share ∷ right-share (p64 - 8) (p64 - 7) ∷ right-share (p64 - 14) (p64 - 9) ∷ [])
+    joins (run Field64 empties west-calls 0 .tally) (run Field64 empties west-calls 1 .tally) (sharesOf Field64 inputs with-west) (left-share ∷ west-share ∷ short-share ∷ [])
     (refl, (refl, (refl, tt))) (λ r e. rw (e .0, e .1 .0, e .1 .1 .0))
 
 withdrawn-joined : JoinedBy withdrawn-calls without
 unfolding run step accumulateOf accumulateAnswer subtractOf paramAnswer paramRules made short
 withdrawn-joined =
-    joins (run Field64 empties withdrawn-calls 0 .tally) (run Field64 empties withdrawn-calls 1 .tally) (sharesOf Field64 inputs without) (left-share ∷ right-share (p64 - 4) (p64 - 9) ∷ right-share (p64 - 8) (p64 - 7) ∷ [])
+    joins (run Field64 empties withdrawn-calls 0 .tally) (run Field64 empties withdrawn-calls 1 .tally) (sharesOf Field64 inputs without) (left-share ∷ east-share ∷ short-share ∷ [])
     (refl, (refl, (refl, tt))) (λ r e. rw (e .0, e .1 .0, e .1 .1 .0))
 
 abbrev summed : (calls : List Call) (reports : List (Report Field64 inputs)) → JoinedBy calls reports → Summed Field64 inputs reports
