@@ -73,7 +73,7 @@ by-rows P r (x ∷ rows) f g = go (eqRow x r) refl (λ e. by-rows P r rows (f .1
     go true e k = subst P (eqRow-true x r e) (f .0)
     go false e k = k e
 
-joins : (t u : Tally) (parts rows : List (List ℕ)) → Each (λ r. t r +ℤ u r ≡ pos (count r parts)) rows → ((r : List ℕ) → Each (λ x. eqRow x r ≡ false) rows → t r +ℤ u r ≡ pos (count r parts)) → Joined t u parts
+pub joins : (t u : Tally) (parts rows : List (List ℕ)) → Each (λ r. t r +ℤ u r ≡ pos (count r parts)) rows → ((r : List ℕ) → Each (λ x. eqRow x r ≡ false) rows → t r +ℤ u r ≡ pos (count r parts)) → Joined t u parts
 joins t u parts rows f g r = by-rows (λ r. t r +ℤ u r ≡ pos (count r parts)) r rows f (g r)
 
 abbrev a-row : (a b : ℕ) → List ℕ
@@ -166,7 +166,7 @@ abbrev right-side : List ℕ
 right-side = 18446744069414584317 ∷ 1 ∷ 0 ∷ 18446744069414584314 ∷ 13734615217278124989 ∷ 11832931228562636648 ∷ 5710247806475579850 ∷ 2923606701313332247 ∷ 6418882226180981208 ∷ 8669234501959975521 ∷ 2945057288036228371 ∷ 4132834992995496999 ∷ 13852533452819147917 ∷ 17490220386990476717 ∷ 15553347825136735687 ∷ 11588367121889160972 ∷ 2426752998075733855 ∷ 11423000233196427866 ∷ []
 
 -- a row of field numbers, by rule 12
-row-of : (xs : List ℕ) → elementsRule p64 xs .number ≡ 0 → FieldRow p64 (length xs) xs
+pub row-of : (xs : List ℕ) → elementsRule p64 xs .number ≡ 0 → FieldRow p64 (length xs) xs
 row-of xs e = record { long = refl; below = elements-below p64 0 xs e }
 
 a-report : Report Field64 inputs

@@ -1,0 +1,2 @@
+-- `Sensitivity`: how far one report can move the sums of a batch.
+pub mod Sensitivity
