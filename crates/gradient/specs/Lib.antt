@@ -1,0 +1,2 @@
+-- What the inner functions of encoding's pass over a gradient give.
+pub mod Squares
