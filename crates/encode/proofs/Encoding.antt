@@ -2,7 +2,7 @@
 use mathlib.Core.Path.{_≡_, refl, sym, ap, _∙_}
 use mathlib.Core.Bool.{Bool, true, false, cond}
 use mathlib.Core.List.{List, [], _∷_, _++_}
-use Prim.Native.Nat.{ℕ, suc, _+_, _*_, _/_, _≤_, _<_}
+use Prim.Native.Nat.{ℕ, suc, _+_, _*_, _/_, _%_, _≤_, _<_}
 use native.Mathlib.Nat.{le-of-eq}
 use native.Mathlib.Omega.{arith}
 use lib.ListN.{length, take, drop, replicate}
@@ -25,7 +25,8 @@ use Rattle.pine.proofs.Limits.{limits, param-accepted}
 use Rattle.pine.proofs.Sizes.{bound-64, norm-64, bound-positive, recovered-64}
 use Rattle.rows.proofs.Lengths.{row-right}
 use Rattle.flp.specs.Tests.{testsOf}
-use Rattle.flp.specs.Encode.{elements, sqNorm, resultsOf, measurementOf, coordinatesRule, gradientLenRule, sqNormRule, inRange, countInRange, everyRule, enoughRule, rangeRule, encodeOutcome, encodeRules, encodeAnswer, encodeOf}
+use Rattle.flp.specs.Encode.{elements, sqNorm, resultsOf, measurementOf, coordinatesRule, gradientLenRule, trueSqNorm, trueSqNormRule, sqNormRule, inRange, countInRange, everyRule, enoughRule, rangeRule, encodeOutcome, encodeRules, encodeAnswer, encodeOf}
+use Rattle.flp.proofs.TrueNorm.{norm-mod}
 use Rattle.measurement.specs.Parts.{Usable, checkedOf}
 use Rattle.gradient_rules.proofs.Searches.{all-usable}
 
@@ -133,23 +134,26 @@ module _ (F : Field) (i : PineParam) (g : List Float) (s m r : List ℕ) where
         rest-long = rw is (ready .measurement-long ∙ (λ j. sym (ready .gradient-long) j + (2 * sqNormBits i + (1 + wrTestBits i) * sym (l ∙ ready .results-long) j)))
 
         -- what the code has found
-        module _ (v b : ℕ) (rs : List ℕ) (a : Answer) (eb : b ≡ boundIn R) (ev : v ≡ sqNorm (F .p) ys) (er : rs ≡ testsOf (F .p) ((length g + 3) / 4) n s ys)
-            (ea : a ≡ first (sqNormRule v (R .«sq_norm_bound»)) (rangeRule (i .«wr_test_rule») (F .p) b (R .«num_wr_successes») rs)) where
-          norm-is : v ≡ sqNorm (F .p) xs
+        module _ (sq v b : ℕ) (rs : List ℕ) (a : Answer) (eb : b ≡ boundIn R) (en : sq ≡ trueSqNorm (R .«frac_bits») g) (ev : v ≡ sq % F .p) (er : rs ≡ testsOf (F .p) ((length g + 3) / 4) n s ys)
+            (ea : a ≡ first (trueSqNormRule (i .«true_sq_norm») sq (R .«sq_norm_bound»)) (first (sqNormRule v (R .«sq_norm_bound»)) (rangeRule (i .«wr_test_rule») (F .p) b (R .«num_wr_successes») rs))) (positive : 0 < F .p) where
+          true-is : sq ≡ trueSqNorm (i .«frac_bits») g
           unfolding pineOf
-          norm-is = rw is at ev
+          true-is = rw is at en
+
+          norm-is : v ≡ sqNorm (F .p) xs
+          norm-is = ev ∙ ap (λ (m : ℕ). m % F .p) true-is ∙ sym (norm-mod (F .p) positive (i .«frac_bits») g)
 
           results-are : rs ≡ resultsOf (F .p) i s xs
           unfolding pineOf resultsOf
           results-are = er ∙ (λ j. testsOf (F .p) (bytesPerTest (ready .gradient-long j)) ((l ∙ ready .results-long) j) s (elements (F .p) (is j .«frac_bits») g))
 
-          late-is : a ≡ first (sqNormRule v (sqNormBound i)) (rangeRule (i .«wr_test_rule») (F .p) (wrTestBound i) (i .«num_wr_successes») rs)
+          late-is : a ≡ first (trueSqNormRule (i .«true_sq_norm») sq (sqNormBound i)) (first (sqNormRule v (sqNormBound i)) (rangeRule (i .«wr_test_rule») (F .p) (wrTestBound i) (i .«num_wr_successes») rs))
           unfolding pineOf
-          late-is = ea ∙ (λ j. first (sqNormRule v (is j .«sq_norm_bound»)) (rangeRule (i .«wr_test_rule») (F .p) ((eb ∙ b-is) j) (is j .«num_wr_successes») rs))
+          late-is = ea ∙ (λ j. first (trueSqNormRule (i .«true_sq_norm») sq (is j .«sq_norm_bound»)) (first (sqNormRule v (is j .«sq_norm_bound»)) (rangeRule (i .«wr_test_rule») (F .p) ((eb ∙ b-is) j) (is j .«num_wr_successes») rs)))
 
-          late : inOrder (drop 6 (encodeRules F i g s m r)) ≡ first (sqNormRule v (sqNormBound i)) (rangeRule (i .«wr_test_rule») (F .p) (wrTestBound i) (i .«num_wr_successes») rs)
+          late : inOrder (drop 6 (encodeRules F i g s m r)) ≡ first (trueSqNormRule (i .«true_sq_norm») sq (sqNormBound i)) (first (sqNormRule v (sqNormBound i)) (rangeRule (i .«wr_test_rule») (F .p) (wrTestBound i) (i .«num_wr_successes») rs))
           unfolding encodeRules
-          late = rw (norm-is, results-are, range-last (i .«wr_test_rule») (F .p) (wrTestBound i) (i .«num_wr_successes») (resultsOf (F .p) i s xs))
+          late = rw (true-is, norm-is, results-are, range-last (i .«wr_test_rule») (F .p) (wrTestBound i) (i .«num_wr_successes») (resultsOf (F .p) i s xs))
 
           answer-is : encodeAnswer F i g s m r ≡ a
           answer-is = split 6 (encodeRules F i g s m r) ∙ first-passed early (inOrder (drop 6 (encodeRules F i g s m r))) (ap (λ (b : Answer). b .number) met) ∙ late ∙ sym late-is

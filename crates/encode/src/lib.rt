@@ -48,8 +48,11 @@ fn encode_usable(
     let pine = Pine::new(param);
     let rule = param.wr_test_rule;
     let per = (gradient.len() + 3) / 4;
-    let v = gradient::norm_and_tests(gradient, pine.scale, pine.frac_bits, per, stream, found);
+    let norm = gradient::norm_and_tests(gradient, pine.scale, pine.frac_bits, per, stream, found);
+    let v = norm.reduced();
     let late = gradient_rules::check_norm_and_tests(
+        param.true_sq_norm,
+        norm,
         v,
         pine.sq_norm_bound,
         rule,

@@ -3,7 +3,10 @@ use borrow.Author.Needs.{needs}
 use mathlib.Core.Path.{sym, ap, _∙_, subst}
 use Prim.Native.Nat.{ℕ}
 use native.Mathlib.Omega.{arith}
+use native.Mathlib.Nat.{mod-lt}
+use lib.Dec.{lit<}
 use Rattle.field64.specs.Field.{p64}
+use Rattle.sums.specs.Unreduced.{wordsOf}
 use lib.ListN.{length}
 use Rattle.doubles.specs.Doubles.{floorLimit64}
 use Rattle.pine.specs.Param.{Field64}
@@ -28,13 +31,16 @@ norm-and-tests-requires c κs =
     let h = ready Field64 (s .args .param) (s .args .gradient .now) (s .args .stream .now) (s .args .measurement .now) (s .args .results .now) (s .pre .0) in
     (subst (λ (f : ℕ). Usable floorLimit64 f (s .args .gradient .now)) (sym (fraction-is (s .args .param) _ (c .before .new .ensures))) (h .usable), (scale-is (s .args .param) _ (c .before .new .ensures), room Field64 (s .args .param) (s .args .gradient .now) (s .args .stream .now) (s .args .measurement .now) (s .args .results .now) (s .pre .0) (length (s .args .found .now)) (s .pre .1)))
 
+reduced-requires : tie.Need-reduced-requires
+reduced-requires c κs = search needs
+
 wr-test-bound-requires : tie.Need-wr-test-bound-requires
 wr-test-bound-requires c κs = search needs
 
 check-norm-and-tests-requires : tie.Need-check-norm-and-tests-requires
 check-norm-and-tests-requires c κs =
-    let s = c .before .before .before .before .before .before .before .before .before .before .before .before in
-    let f = bounds-fit (s .args .param) _ (c .before .before .before .before .before .before .new .ensures) (ready Field64 (s .args .param) (s .args .gradient .now) (s .args .stream .now) (s .args .measurement .now) (s .args .results .now) (s .pre .0) .inputs) in
+    let s = c .before .before .before .before .before .before .before .before .before .before .before .before .before in
+    let f = bounds-fit (s .args .param) _ (c .before .before .before .before .before .before .before .new .ensures) (ready Field64 (s .args .param) (s .args .gradient .now) (s .args .stream .now) (s .args .measurement .now) (s .args .results .now) (s .pre .0) .inputs) in
     omega (arith, f .0, c .wr-test-bound .ensures)
 
 same-length : tie.Need-same-length
@@ -42,22 +48,25 @@ same-length c = omega arith
 
 returns : tie.Need-returns
 returns c =
-    let s = c .before .before .before .before .before .before .before .before .before .before .before .before .before .before .before in
-    let e = c .before .before .before .before .before .before .before .before .before .new .ensures in
-    let t = c .before .before .before .before .before .before .before .norm-and-tests in
-    late-refused Field64 (s .args .param) (s .args .gradient .now) (s .args .stream .now) (s .args .measurement .now) (s .args .results .now) (s .pre .0) (length (s .args .found .now)) (s .pre .1) _ e (bound-is (s .args .param) _ e (ready Field64 (s .args .param) (s .args .gradient .now) (s .args .stream .now) (s .args .measurement .now) (s .args .results .now) (s .pre .0) .inputs)) (t .result) _ _ _ (c .before .before .before .wr-test-bound .ensures) (t .ensures .0 .1) (t .ensures .1) (c .before .before .check-norm-and-tests .ensures) (c .if1 .taken)
+    let s = c .before .before .before .before .before .before .before .before .before .before .before .before .before .before .before .before in
+    let e = c .before .before .before .before .before .before .before .before .before .before .new .ensures in
+    let t = c .before .before .before .before .before .before .before .before .norm-and-tests in
+    late-refused Field64 (s .args .param) (s .args .gradient .now) (s .args .stream .now) (s .args .measurement .now) (s .args .results .now) (s .pre .0) (length (s .args .found .now)) (s .pre .1) _ e (bound-is (s .args .param) _ e (ready Field64 (s .args .param) (s .args .gradient .now) (s .args .stream .now) (s .args .measurement .now) (s .args .results .now) (s .pre .0) .inputs)) (wordsOf (t .result)) _ _ _ _ (c .before .before .before .wr-test-bound .ensures) (t .ensures .0) (c .before .before .before .before .before .reduced .ensures) (t .ensures .1) (c .before .before .check-norm-and-tests .ensures) (lit< tt) (c .if1 .taken)
 
 write-measurement-requires : tie.Need-write-measurement-requires
 write-measurement-requires c κs =
-    let s = c .before .before .before .before .before .before .before .before .before .before .before .before .before .before .before .before .before in
-    let t = c .before .before .before .before .before .before .before .before .before .norm-and-tests in
-    let e = c .before .before .before .before .before .before .before .before .before .before .before .new .ensures in
+    let s = c .before .before .before .before .before .before .before .before .before .before .before .before .before .before .before .before .before .before in
+    let t = c .before .before .before .before .before .before .before .before .before .before .norm-and-tests in
+    let e = c .before .before .before .before .before .before .before .before .before .before .before .before .new .ensures in
     let h = ready Field64 (s .args .param) (s .args .gradient .now) (s .args .stream .now) (s .args .measurement .now) (s .args .results .now) (s .pre .0) in
     let b = bounds-fit (s .args .param) _ e (h .inputs) in
-    (subst (λ (f : ℕ). Usable floorLimit64 f (s .args .gradient .now)) (sym (fraction-is (s .args .param) _ e)) (h .usable), (scale-is (s .args .param) _ e, (rest-long Field64 (s .args .param) (s .args .gradient .now) (s .args .stream .now) (s .args .measurement .now) (s .args .results .now) (s .pre .0) _ (t .kept .1 .1 .1 .1 .1 .0 ∙ s .pre .1) _ e (bound-is (s .args .param) _ e (h .inputs)), ((results-below p64 (omega arith) _ _ _ _ _ (t .ensures .1), (b .1 .0, b .0)), (t .ensures .0 .0, b .1 .1)))))
+    (subst (λ (f : ℕ). Usable floorLimit64 f (s .args .gradient .now)) (sym (fraction-is (s .args .param) _ e)) (h .usable), (scale-is (s .args .param) _ e, (rest-long Field64 (s .args .param) (s .args .gradient .now) (s .args .stream .now) (s .args .measurement .now) (s .args .results .now) (s .pre .0) _ (t .kept .1 .1 .1 .1 .1 .0 ∙ s .pre .1) _ e (bound-is (s .args .param) _ e (h .inputs)), ((results-below p64 (omega arith) _ _ _ _ _ (t .ensures .1), (b .1 .0, b .0)), (rw (c .before .before .before .before .before .before .before .reduced .ensures) (mod-lt (wordsOf (t .result)) (lit< tt)), b .1 .1)))))
 
 copy-row-requires : tie.Need-copy-row-requires
-copy-row-requires c κs = omega arith
+copy-row-requires c κs =
+    let s = c .before .before .before .before .before .before .before .before .before .before .before .before .before .before .before .before .before .before .before .before .before .before .before in
+    let t = c .before .before .before .before .before .before .before .before .before .before .before .before .before .before .before .norm-and-tests in
+    omega (arith, t .kept .1 .1 .1 .1 .1 .0, s .pre .1)
 
 same-length-2 : tie.Need-same-length-2
 same-length-2 c = omega arith
@@ -70,11 +79,11 @@ same-length-4 c = omega arith
 
 returns-2 : tie.Need-returns-2
 returns-2 c =
-    let s = c .before .before .before .before .before .before .before .before .before .before .before .before .before .before .before .before .before .before .before .before .before .before .before .before .before in
-    let e = c .before .before .before .before .before .before .before .before .before .before .before .before .before .before .before .before .before .before .before .new .ensures in
-    let t = c .before .before .before .before .before .before .before .before .before .before .before .before .before .before .before .before .before .norm-and-tests in
+    let s = c .before .before .before .before .before .before .before .before .before .before .before .before .before .before .before .before .before .before .before .before .before .before .before .before .before .before in
+    let e = c .before .before .before .before .before .before .before .before .before .before .before .before .before .before .before .before .before .before .before .before .new .ensures in
+    let t = c .before .before .before .before .before .before .before .before .before .before .before .before .before .before .before .before .before .before .norm-and-tests in
     let k = c .before .before .before .before .before .before .before .before .before .before .before .before in
-    done Field64 (s .args .param) (s .args .gradient .now) (s .args .stream .now) (s .args .measurement .now) (s .args .results .now) (s .pre .0) (length (s .args .found .now)) (s .pre .1) _ e (bound-is (s .args .param) _ e (ready Field64 (s .args .param) (s .args .gradient .now) (s .args .stream .now) (s .args .measurement .now) (s .args .results .now) (s .pre .0) .inputs)) (t .result) _ _ _ (k .before .wr-test-bound .ensures) (t .ensures .0 .1) (t .ensures .1) (k .check-norm-and-tests .ensures) _ _ (c .before .before .before .before .before .before .before .before .before .before .if1 .left) (c .before .before .before .before .before .before .before .write-measurement .ensures) (c .before .before .copy-row .ensures)
+    done Field64 (s .args .param) (s .args .gradient .now) (s .args .stream .now) (s .args .measurement .now) (s .args .results .now) (s .pre .0) (length (s .args .found .now)) (s .pre .1) _ e (bound-is (s .args .param) _ e (ready Field64 (s .args .param) (s .args .gradient .now) (s .args .stream .now) (s .args .measurement .now) (s .args .results .now) (s .pre .0) .inputs)) (wordsOf (t .result)) _ _ _ _ (k .before .wr-test-bound .ensures) (t .ensures .0) (k .before .before .before .reduced .ensures) (t .ensures .1) (k .check-norm-and-tests .ensures) (lit< tt) _ _ (c .before .before .before .before .before .before .before .before .before .before .if1 .left) (c .before .before .before .before .before .before .before .write-measurement .ensures) (c .before .before .copy-row .ensures)
 
 pub encode-usable-spec : {M : Type 1} → statement M
 encode-usable-spec =
@@ -83,6 +92,7 @@ encode-usable-spec =
     new-requires
     add-per
     norm-and-tests-requires
+    reduced-requires
     wr-test-bound-requires
     check-norm-and-tests-requires
     same-length
