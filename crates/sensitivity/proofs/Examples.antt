@@ -1,4 +1,5 @@
 -- Batches of reports, summed by lists of calls: what the statements ask can be met, and each bound is reached. Past what they ask, they fail. Assumes nothing.
+use mathlib.Core.Bool.{true}
 use mathlib.Core.Path.{_≡_, refl, ap}
 use mathlib.Core.List.{List, [], _∷_, _++_, List·Permᴰ·cons, List·Permᴰ·swap, List·Permᴰ·nil}
 use Prim.Native.Nat.{ℕ, _+_, _-_, _*_, _^_, _<_, _≤_}
@@ -12,13 +13,14 @@ use Rattle.field64.specs.Field.{p64}
 use Rattle.field64.specs.Sums.{evaluate}
 use Rattle.doubles.specs.Doubles.{floorDiv, modP, unusable, floorOf, element, centred, decoded}
 use Rattle.pine.specs.declared.PineParam.{PineParam}
+use Rattle.pine.specs.declared.WrTestRule.the-variants.{Every}
 use Rattle.pine.specs.Param.{Field64, paramRules, paramAnswer}
 use Rattle.pine.specs.Record.{halvings, digits, sqNormBound, sqNormBits, wrTestBound, wrTestBits, bitCheckedLen, encodedInputLen}
 use Rattle.rows.specs.Rows.{addRows, subRows, elementsRule}
 use Rattle.rows.proofs.Elements.{elements-below}
 use Rattle.flp.specs.Bits.{bits, groups}
 use Rattle.flp.specs.Tests.{pairs, weighed, weigh, testOf, testsOf}
-use Rattle.flp.specs.Encode.{elements, sqNorm, trueSqNorm, testBits, resultsOf, measurementOf, coordinatesRule, rangeRule, encodeRules, encodeAnswer, encodeOutcome, encodeOf}
+use Rattle.flp.specs.Encode.{elements, sqNorm, trueSqNorm, testBits, resultsOf, measurementOf, coordinatesRule, everyRule, enoughRule, rangeRule, countInRange, encodeRules, encodeAnswer, encodeOutcome, encodeOf}
 use Rattle.vdaf.specs.Aggregates.{emptyAnswer, emptyOf, accumulateAnswer, accumulateOf, subtractOf, decodedSums, unshardAnswer, unshardOf}
 use Rattle.correctness.specs.Table.{double, param, none, one, large}
 use Rattle.correctness.specs.Tally.{nothing, Call, Aggregates, step, run, Begun, Joined}
@@ -30,9 +32,9 @@ use Rattle.sensitivity.proofs.Length.{true-lengths-64}
 
 -- ---- reports
 
--- n 5, so B 25; d 2, f 1, one test
+-- n 5, so B 25; d 2, f 1, one test; the switch is on
 abbrev inputs : PineParam
-inputs = record { «norm_bound» = 5; dimension = 2; «frac_bits» = 1; «chunk_len» = 1; «chunk_len_sq_norm_equal» = 1; «num_wr_tests» = 1; «num_wr_successes» = 1 }
+inputs = record { «norm_bound» = 5; dimension = 2; «frac_bits» = 1; «chunk_len» = 1; «chunk_len_sq_norm_equal» = 1; «num_wr_tests» = 1; «num_wr_successes» = 1; «alpha_numerator» = 87; «alpha_denominator» = 10; «wr_test_rule» = Every; «true_sq_norm» = true }
 
 -- elements x and y; v and u; 63 in seven bits, the result being 0, and the success bit
 abbrev with-v : (x y : ℕ) (v u : List ℕ) → List ℕ
@@ -97,7 +99,7 @@ record Encoded : Type 0 where
   short : Encodes short-gradient (with-v 1 2 (1 ∷ 0 ∷ 1 ∷ 0 ∷ 0 ∷ []) (0 ∷ 0 ∷ 1 ∷ 0 ∷ 1 ∷ []))
 
 encoded : Encoded
-unfolding ofBits unusable element floorOf floorDiv modP encodeOf encodeRules measurementOf resultsOf coordinatesRule rangeRule elements sqNorm testBits bits evaluate groups pairs weighed weigh testOf testsOf halvings digits sqNormBound sqNormBits wrTestBound wrTestBits bitCheckedLen encodedInputLen paramAnswer paramRules
+unfolding ofBits unusable element floorOf floorDiv modP encodeOf encodeRules measurementOf resultsOf coordinatesRule everyRule enoughRule rangeRule countInRange elements sqNorm testBits bits evaluate groups pairs weighed weigh testOf testsOf halvings digits sqNormBound sqNormBits wrTestBound wrTestBits bitCheckedLen encodedInputLen paramAnswer paramRules trueSqNorm
 encoded = record { east = refl; west = refl; up = refl; down = refl; short = refl }
 
 -- floors 5, 0 and -5, 0; 3, 4 and -3, -4; 1, 2
@@ -279,7 +281,7 @@ abbrev long-measurement : List ℕ
 long-measurement = 4294967296 ∷ (bits 33 4294967295 ++ (bits 33 1 ++ (bits 21 1048575 ++ (1 ∷ []))))
 
 long-call : encodeOf Field64 wide (large ∷ []) (1 ∷ []) (replicate 89 7) (7 ∷ []) ≡ encodeOutcome accepted long-measurement (0 ∷ [])
-unfolding ofBits unusable element floorOf floorDiv modP encodeOf encodeRules measurementOf resultsOf coordinatesRule rangeRule elements sqNorm testBits bits evaluate groups pairs weighed weigh testOf testsOf halvings digits sqNormBound sqNormBits wrTestBound wrTestBits bitCheckedLen encodedInputLen paramAnswer paramRules
+unfolding ofBits unusable element floorOf floorDiv modP encodeOf encodeRules measurementOf resultsOf coordinatesRule everyRule enoughRule rangeRule countInRange elements sqNorm testBits bits evaluate groups pairs weighed weigh testOf testsOf halvings digits sqNormBound sqNormBits wrTestBound wrTestBits bitCheckedLen encodedInputLen paramAnswer paramRules trueSqNorm
 long-call = refl
 
 long : Report Field64 wide
@@ -322,7 +324,7 @@ record Lengths : Type 0 where
   refused : encodeAnswer Field64 (param 1 4 2 2) (one ∷ one ∷ none ∷ none ∷ []) (3 ∷ 0 ∷ []) (replicate 18 7) (replicate 2 7) .number ≡ 10
 
 lengths : Lengths
-unfolding trueSqNorm ofBits unusable element floorOf floorDiv modP encodeRules resultsOf coordinatesRule rangeRule elements sqNorm evaluate groups pairs weighed weigh testOf testsOf halvings digits sqNormBound sqNormBits wrTestBound wrTestBits bitCheckedLen encodedInputLen paramAnswer paramRules
+unfolding trueSqNorm ofBits unusable element floorOf floorDiv modP encodeRules resultsOf coordinatesRule everyRule enoughRule rangeRule countInRange elements sqNorm evaluate groups pairs weighed weigh testOf testsOf halvings digits sqNormBound sqNormBits wrTestBound wrTestBits bitCheckedLen encodedInputLen paramAnswer paramRules
 lengths = record { positive = refl; negative = refl; unreduced = refl; reduced = refl; refused = refl }
 
 -- by the theorem, of floors 3, 4: v is 25

@@ -1,55 +1,28 @@
 -- The sum of squares in the field is the true squared length, where that is within the bound: so rule 10 does not refuse. Assumes nothing.
 use mathlib.Core.Path.{_≡_, refl, sym, ap, subst, _∙_}
-use mathlib.Core.Bool.{Bool, true, false, cond}
-use mathlib.Core.List.{List, [], _∷_, map}
-use Prim.Native.Nat.{ℕ, suc, _+_, _*_, _%_, _<_}
-use native.Mathlib.Nat.{lt-of-le-of-lt, mod-eq-of-lt, zero-mod, mul-zero}
-use native.Mathlib.Omega.{arith}
-use lib.IntN.{ℤ, pos, negsuc}
+use mathlib.Core.Bool.{Bool, true, false, cond, _&&_, true≢false}
+use mathlib.Core.List.{List, [], _∷_}
+use Prim.Native.Nat.{ℕ, suc, _≤_, _<_}
+use native.Mathlib.Nat.{lt-of-le-of-lt, mod-eq-of-lt}
 use lib.Ieee.{Float}
 use lib.Dec.{eqb, ltb, lit<}
 use lib.ListN.{length}
-use borrow.Author.Tests.{le-ltb, eqb-true, eqb-false}
+use borrow.Author.Tests.{le-ltb, ltb-false, eqb-true, eqb-false}
 use Rattle.rules.specs.declared.Answer.{Answer}
 use Rattle.rules.specs.Rules.{answer, accepted, refuse, first, inOrder, outOf}
-use Rattle.rules.proofs.Chain.{none}
-use Rattle.field64.specs.Field.{mulMod}
-use Rattle.field64.specs.Sums.{evaluate}
-use Rattle.field64.proofs.Modular.{modular, add-both, mul-both, cancel}
-use Rattle.field64.proofs.Sums.{total-cons}
-use Rattle.doubles.specs.Doubles.{modP, floorOf, element, beyond, unusable, coordinateRule}
+use Rattle.rules.proofs.Chain.{none, passed, not-so}
+use Rattle.doubles.specs.Doubles.{floorOf, beyond, unusable, coordinateRule}
 use Rattle.pine.specs.declared.PineParam.{PineParam}
+use Rattle.pine.specs.declared.WrTestRule.{WrTestRule}
+use Rattle.pine.specs.declared.WrTestRule.the-variants.{Every, Enough}
 use Rattle.pine.specs.Param.{Field, Field64, paramRules, paramAnswer}
 use Rattle.pine.specs.Record.{sqNormBound, wrTestBound, encodedInputLen, streamLen}
-use Rattle.flp.specs.Encode.{elements, sqNorm, trueSqNorm, coordinatesRule, sqNormRule, inRange, resultsOf, rangeRule, encodeRules, encodeAnswer}
+use Rattle.flp.specs.Encode.{elements, sqNorm, trueSqNorm, coordinatesRule, trueSqNormRule, sqNormRule, inRange, countInRange, resultsOf, everyRule, enoughRule, rangeRule, encodeRules, encodeAnswer}
 use Rattle.flp.proofs.Gradient.{room-64}
-use Rattle.correctness.proofs.Centred.{modP-parts}
-use Rattle.sensitivity.specs.Sensitivity.{Short, TrueLengths, square}
-
-module _ (p : ℕ) (positive : 0 < p) where
-  -- a whole number modulo p has its square
-  square-mod : (z : ℤ) → (modP p z * modP p z) % p ≡ square z % p
-  square-mod (pos n) = unfold modP in (simp modular)
-  square-mod (negsuc n) =
-      let m = modP p (negsuc n) in
-      let k = suc n in
-      let e : (m + k) % p ≡ 0 % p = modP-parts p positive (negsuc n) in
-      let u : m * m + m * k ≡ m * (m + k) = omega arith in
-      let v : k * (m + k) ≡ k * k + m * k = omega arith in
-      cancel p positive (m * m) (k * k) (m * k)
-      (ap (λ (x : ℕ). x % p) u
-      ∙ mul-both p m m (m + k) 0 refl e
-      ∙ ap (λ (x : ℕ). x % p) (mul-zero m ∙ sym (mul-zero k))
-      ∙ sym (mul-both p k k (m + k) 0 refl e)
-      ∙ ap (λ (x : ℕ). x % p) v)
-
-  norm-mod : (f : ℕ) (xs : List Float) → sqNorm p (elements p f xs) ≡ trueSqNorm f xs % p
-  unfolding sqNorm elements element trueSqNorm evaluate
-  norm-mod f [] = sym (zero-mod p)
-  norm-mod f (x ∷ xs) =
-      let z = floorOf x f in
-      total-cons p positive (mulMod p (modP p z) (modP p z)) (map (λ y. mulMod p y y) (elements p f xs))
-      ∙ rw (norm-mod f xs) (simp modular (add-both p (modP p z * modP p z) (square z) (trueSqNorm f xs) (trueSqNorm f xs) (square-mod z) refl))
+use Rattle.flp.proofs.TrueNorm.{norm-mod}
+use Rattle.flp.proofs.Valid.{answered}
+use Rattle.correctness.specs.Correctness.{Report}
+use Rattle.sensitivity.specs.Sensitivity.{Short, TrueLengths}
 
 -- ---- rules by other numbers than 10
 
@@ -94,7 +67,13 @@ param-other F i =
               either-number (outOf (i .«chunk_len») 65536) 5 0 0 0 refl refl,
               λ z. (
                 either-number (outOf (i .«chunk_len_sq_norm_equal») 65536) 5 0 0 0 refl refl,
-                λ z. (either-number (outOf (i .«num_wr_tests») 256) 6 0 0 0 refl refl, λ z. tt),
+                λ z. (
+                  either-number (outOf (i .«num_wr_tests») 256) 6 0 0 0 refl refl,
+                  λ z. (
+                    either-number (outOf (i .«alpha_numerator») 65535) 19 0 0 0 refl refl,
+                    λ z. (either-number (outOf (i .«alpha_denominator») 65535) 19 0 0 0 refl refl, λ z. tt),
+                  ),
+                ),
               ),
             ),
           ),
@@ -110,10 +89,15 @@ coordinates-other limit f k (x ∷ xs) =
     (first-other (refuse (unusable x) 8 0) (refuse (beyond limit (floorOf x f)) 17 0) (either-number (unusable x) 8 0 0 0 refl refl) (λ z. either-number (beyond limit (floorOf x f)) 17 0 0 0 refl refl))
     (λ z. coordinates-other limit f (suc k) xs)
 
-range-other : (p b k : ℕ) (rs : List ℕ) → Other (rangeRule p b k rs)
-unfolding rangeRule
-range-other p b k [] = eqb-false 0 10 refl
-range-other p b k (r ∷ rs) = either (inRange p b r) (rangeRule p b (suc k) rs) (answer 11 k) (range-other p b (suc k) rs) (eqb-false 11 10 refl)
+every-other : (p b k : ℕ) (rs : List ℕ) → Other (everyRule p b k rs)
+unfolding everyRule
+every-other p b k [] = eqb-false 0 10 refl
+every-other p b k (r ∷ rs) = either (inRange p b r) (everyRule p b (suc k) rs) (answer 11 k) (every-other p b (suc k) rs) (eqb-false 11 10 refl)
+
+range-other : (rule : WrTestRule) (p b K : ℕ) (rs : List ℕ) → Other (rangeRule rule p b K rs)
+unfolding rangeRule enoughRule
+range-other Every p b K rs = every-other p b 0 rs
+range-other Enough p b K rs = either-number (ltb (countInRange p b rs) K) 20 0 (countInRange p b rs) 0 refl refl
 
 module _ (F : Field) (positive : 0 < F .p) (room : (i : PineParam) → paramAnswer F i .number ≡ 0 → sqNormBound i < F .p) (i : PineParam) where
   module _ (gradient : List Float) (s : Short i gradient) where
@@ -124,7 +108,8 @@ module _ (F : Field) (positive : 0 < F .p) (room : (i : PineParam) → paramAnsw
     met : paramAnswer F i .number ≡ 0 → sqNormRule (sqNorm (F .p) (elements (F .p) (i .«frac_bits») gradient)) (sqNormBound i) ≡ accepted
     met h = rw (true-v h, le-ltb (sqNormBound i) (trueSqNorm (i .«frac_bits») gradient) s)
 
-  never-10 : (gradient : List Float) (stream measurement results : List ℕ) → Short i gradient → Other (encodeAnswer F i gradient stream measurement results)
+  -- so encoding never answers 10, where rule 21 leaves short gradients only
+  never-10 : (gradient : List Float) (stream measurement results : List ℕ) → (trueSqNormRule (i .«true_sq_norm») (trueSqNorm (i .«frac_bits») gradient) (sqNormBound i) .number ≡ 0 → Short i gradient) → Other (encodeAnswer F i gradient stream measurement results)
   unfolding encodeRules
   never-10 gradient stream measurement results s =
       in-order (encodeRules F i gradient stream measurement results) (
@@ -140,8 +125,11 @@ module _ (F : Field) (positive : 0 < F .p) (room : (i : PineParam) → paramAnsw
                 λ z. (
                   either-number (eqb (length gradient) (i .dimension)) 0 9 0 0 refl refl,
                   λ z. (
-                    subst Other (sym (met gradient s ok)) (eqb-false 0 10 refl),
-                    λ z. (range-other (F .p) (wrTestBound i) 0 (resultsOf (F .p) i stream (elements (F .p) (i .«frac_bits») gradient)), λ z. tt),
+                    either-number (i .«true_sq_norm» && ltb (sqNormBound i) (trueSqNorm (i .«frac_bits») gradient)) 21 0 0 0 refl refl,
+                    λ passed. (
+                      subst Other (sym (met gradient (s passed) ok)) (eqb-false 0 10 refl),
+                      λ z. (range-other (i .«wr_test_rule») (F .p) (wrTestBound i) (i .«num_wr_successes») (resultsOf (F .p) i stream (elements (F .p) (i .«frac_bits») gradient)), λ z. tt),
+                    ),
                   ),
                 ),
               ),
@@ -150,8 +138,25 @@ module _ (F : Field) (positive : 0 < F .p) (room : (i : PineParam) → paramAnsw
         ),
       )
 
+-- rule 21 passed, with the switch on
+switched : (on : Bool) (n B : ℕ) → on ≡ true → trueSqNormRule on n B .number ≡ 0 → n ≤ B
+switched true n B e h = ltb-false B n (not-so (ltb B n) 20 0 h)
+switched false n B e h = absurd (true≢false (sym e))
+
+-- so is it for a report
+report-short : (F : Field) (i : PineParam) → i .«true_sq_norm» ≡ true → (r : Report F i) → Short i (r .gradient)
+unfolding encodeRules
+report-short F i on r =
+    let h = passed (encodeRules F i (r .gradient) (r .stream) (r .found-measurement) (r .found-results)) (answered F i (r .gradient) (r .stream) (r .found-measurement) (r .found-results) (r .measurement) (r .results) (r .call)) in
+    switched (i .«true_sq_norm») (trueSqNorm (i .«frac_bits») (r .gradient)) (sqNormBound i) on (h .1 .1 .1 .1 .1 .1 .0)
+
 pub true-lengths : (F : Field) → 0 < F .p → ((i : PineParam) → paramAnswer F i .number ≡ 0 → sqNormBound i < F .p) → TrueLengths F
-true-lengths F positive room = record { v = λ i ok gradient s. true-v F positive room i gradient s (none ok); never = never-10 F positive room }
+true-lengths F positive room = record {
+  v = λ i ok gradient s. true-v F positive room i gradient s (none ok);
+  never = λ i gradient stream measurement results s. never-10 F positive room i gradient stream measurement results (λ z. s);
+  on-short = report-short F;
+  on-never = λ i on gradient stream measurement results. never-10 F positive room i gradient stream measurement results (switched (i .«true_sq_norm») (trueSqNorm (i .«frac_bits») gradient) (sqNormBound i) on);
+}
 
 pub true-lengths-64 : TrueLengths Field64
 true-lengths-64 = true-lengths Field64 (lit< tt) (λ i h. room-64 i h .norm)

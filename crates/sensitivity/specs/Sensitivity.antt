@@ -1,6 +1,7 @@
 -- How far one report can move the sums of a batch (document 02, k), over a field F. Assumes nothing.
 use Prim.Native.Nat.{ℕ, zero, suc, _+_, _*_, _^_, _<_, _≤_}
 use mathlib.Core.Path.{_≡_}
+use mathlib.Core.Bool.{true}
 use mathlib.Core.List.{List, _∷_, Perm}
 use lib.ListN.{length, getD}
 use lib.IntN.{ℤ, pos, natAbs, _-ℤ_, _*ℤ_}
@@ -26,6 +27,9 @@ pub record TrueLengths (F : Field) : Type 0 where
   pub v : (i : PineParam) → paramAnswer F i ≡ accepted → (gradient : List Float) → Short i gradient → sqNorm (F .p) (elements (F .p) (i .«frac_bits») gradient) ≡ trueSqNorm (i .«frac_bits») gradient
   -- and encoding is never refused by rule 10
   pub never : (i : PineParam) (gradient : List Float) (stream measurement results : List ℕ) → Short i gradient → encodeAnswer F i gradient stream measurement results .number ≡ 10 → ⊥
+  -- with the switch on, encoding accepts short gradients only, and never answers 10
+  pub on-short : (i : PineParam) → i .«true_sq_norm» ≡ true → (r : Report F i) → Short i (r .gradient)
+  pub on-never : (i : PineParam) → i .«true_sq_norm» ≡ true → (gradient : List Float) (stream measurement results : List ℕ) → encodeAnswer F i gradient stream measurement results .number ≡ 10 → ⊥
 
 -- ---- numbers
 
