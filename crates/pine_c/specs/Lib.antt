@@ -1,0 +1,2 @@
+-- The inputs as C has them.
+pub mod Bytes
