@@ -2,12 +2,15 @@
 use lines::words;
 use lines::words::Cursor;
 use pine::PineParam;
+use pine::WrTestRule;
 ghost use Prim.Native.Nat.{_≤_};
 
 // The inputs that stand before a case, `with NUM DEN RULE SWITCH`, and where the case begins.
 pub struct Later {
     pub alpha_numerator: u16,
     pub alpha_denominator: u16,
+    pub wr_test_rule: WrTestRule,
+    pub true_sq_norm: bool,
     pub case: Cursor,
 }
 
@@ -31,6 +34,15 @@ fn narrow(n: u64) -> Narrow {
     }
 }
 
+// 0 for the first rule, 1 for the second.
+fn rule_of(n: u64) -> WrTestRule {
+    if n == 0 {
+        WrTestRule::Every
+    } else {
+        WrTestRule::Enough
+    }
+}
+
 // Those of the standard setting where nothing stands before the case.
 pub fn read_later(line: &[u8]) -> Later {
     let w = words::next_word(line, Cursor::new());
@@ -40,6 +52,8 @@ pub fn read_later(line: &[u8]) -> Later {
         return Later {
             alpha_numerator: 87,
             alpha_denominator: 10,
+            wr_test_rule: WrTestRule::Every,
+            true_sq_norm: false,
             case: Cursor::new(),
         };
     }
@@ -50,13 +64,16 @@ pub fn read_later(line: &[u8]) -> Later {
     let above = narrow(numerator.value);
     let below = narrow(denominator.value);
     let next = switch.next;
-    let off = rule.value == 0 && switch.value == 0;
+    let both = rule.value <= 1 && switch.value <= 1;
+    let wr_test_rule = rule_of(rule.value);
     Later {
         alpha_numerator: above.value,
         alpha_denominator: below.value,
+        wr_test_rule,
+        true_sq_norm: switch.value == 1,
         case: Cursor {
             at: next.at,
-            ok: next.ok & above.ok & below.ok & off,
+            ok: next.ok & above.ok & below.ok & both,
         },
     }
 }
@@ -69,6 +86,7 @@ pub struct ReadParam {
 // The seven inputs from a cursor on, with the line's later ones.
 pub fn read_param(line: &[u8], c: Cursor) -> ReadParam {
     let later = read_later(line);
+    let wr_test_rule = later.wr_test_rule;
     let norm_bound = words::decimal(line, c);
     let dimension = words::decimal(line, norm_bound.next);
     let frac_bits = words::decimal(line, dimension.next);
@@ -87,6 +105,8 @@ pub fn read_param(line: &[u8], c: Cursor) -> ReadParam {
         num_wr_successes: num_wr_successes.value,
         alpha_numerator: later.alpha_numerator,
         alpha_denominator: later.alpha_denominator,
+        wr_test_rule,
+        true_sq_norm: later.true_sq_norm,
     };
     ReadParam { param, next }
 }
