@@ -15,10 +15,10 @@ use Rattle.columns.proofs.add_weighed.Statement.{statement}
 use Rattle.columns.proofs.add_weighed.Tie as tie
 
 abbrev Inv-loop : tie.InvT-loop
-Inv-loop xs per j n stream weights₀ results₀ plain table t₀ weights results t = (length weights ≡ length weights₀) × Walking (addGroup p64 per j n xs stream results₀) results₀ results t
+Inv-loop xs per j n stream weights₀ results₀ table plain t₀ weights results t = (length weights ≡ length weights₀) × Walking (addGroup p64 per j n xs stream results₀) results₀ results t
 
 abbrev μ-loop : tie.MeasureT-loop
-μ-loop xs per j n stream weights₀ results₀ plain table t₀ weights results t = length results₀ - t
+μ-loop xs per j n stream weights₀ results₀ table plain t₀ weights results t = length results₀ - t
 
 -- what is made of the bytes of a test
 abbrev adds : (xs bytes : List ℕ) (r : ℕ) → ℕ
@@ -37,14 +37,14 @@ plain-sum-requires c κs = c .before .before .before .before .pre .1 .0 .1 .0
 loop-holds : tie.Need-loop-holds Inv-loop μ-loop
 loop-holds c = (refl, (search needs, refl, refl))
 
-mul-start : tie.Need-mul-start Inv-loop μ-loop
-mul-start c = record { fits = omega (arith, fits c) }
+mul-from : tie.Need-mul-from Inv-loop μ-loop
+mul-from c = record { fits = omega (arith, fits c) }
 
-add-start : tie.Need-add-start Inv-loop μ-loop
-add-start c = record { fits = omega (arith, fits c) }
+add-from : tie.Need-add-from Inv-loop μ-loop
+add-from c = record { fits = omega (arith, fits c) }
 
-add-end : tie.Need-add-end Inv-loop μ-loop
-add-end c = record { fits = omega (arith, fits c) }
+add-to : tie.Need-add-to Inv-loop μ-loop
+add-to c = record { fits = omega (arith, fits c) }
 
 mul-add-bytes : tie.Need-mul-add-bytes Inv-loop μ-loop
 mul-add-bytes c = omega arith
@@ -111,9 +111,9 @@ add-weighed-spec =
     μ-loop
     plain-sum-requires
     loop-holds
-    mul-start
-    add-start
-    add-end
+    mul-from
+    add-from
+    add-to
     mul-add-bytes
     slice-read-add-bytes
     sub-add-bytes
