@@ -156,14 +156,14 @@ part-long first last xs h l =
     length-take-le (last - first) (drop first xs) e
 
 -- the room that it takes
-pub room-few : (tests n : ℕ) → tests ≤ 8 → roomFor tests n ≡ 4 * n
-room-few tests n h = rw (le-leb tests 8 h)
+pub room-few : (tests n : ℕ) → tests ≤ 6 → roomFor tests n ≡ 4 * n
+room-few tests n h = rw (le-leb tests 6 h)
 
-pub room-many : (tests n : ℕ) → 8 < tests → roomFor tests n ≡ 32 * n
-room-many tests n h = rw (lt-leb tests 8 h)
+pub room-many : (tests n : ℕ) → 6 < tests → roomFor tests n ≡ 32 * n
+room-many tests n h = rw (lt-leb tests 6 h)
 
 pub room-less : (tests tests′ n m l l′ : ℕ) → tests′ ≡ tests → l′ ≡ l → n ≤ m → roomFor tests m ≤ l → roomFor tests′ n ≤ l′
-room-less tests tests′ n m l l′ e f h = rw (e, f) (go (leb tests 8))
+room-less tests tests′ n m l l′ e f h = rw (e, f) (go (leb tests 6))
   where
     go : (t : Bool) → cond t (4 * m) (32 * m) ≤ l → cond t (4 * n) (32 * n) ≤ l
     go true g = omega arith

@@ -20,7 +20,7 @@ addGroup p per j n xs stream results = eachTest (λ bytes r. addMod p r (testOf 
 
 -- so many words of a spare row are taken by n bytes of each of so many tests: four weights for a byte, or two tables of sixteen entries
 abbrev pub roomFor : (tests n : ℕ) → ℕ
-roomFor tests n = cond (leb tests 8) (4 * n) (32 * n)
+roomFor tests n = cond (leb tests 6) (4 * n) (32 * n)
 
 -- the group from byte j on: up to so many bytes, and the coordinates for them, as many as there are
 abbrev pub groupFrom : (j width per d : ℕ) → Group
