@@ -2,4 +2,4 @@
 pub mod Swapped
 mod Each
 mod Tables
-mod Weights
+pub mod Weights

@@ -17,7 +17,7 @@ use Rattle.rows.specs.Rows.{Below}
 use Rattle.flp.specs.Bits.{groups}
 use Rattle.flp.specs.Tests.{pairs, weighed, weigh, testOf, testsOf}
 use Rattle.columns.specs.declared.Group.{Group}
-use Rattle.columns.specs.Columns.{addGroup, widthFor, groupFrom}
+use Rattle.columns.specs.Columns.{addGroup, roomFor, groupFrom}
 use Rattle.flp.proofs.Tests.{tests-below}
 
 -- what a byte adds for four coordinates
@@ -155,22 +155,19 @@ part-long first last xs h l =
     let e : last - first ≤ length (drop first xs) = rw (length-drop first xs) (omega arith) in
     length-take-le (last - first) (drop first xs) e
 
--- its width
-pub width-few : (tests : ℕ) → tests ≤ 8 → widthFor tests ≡ 64
-width-few tests h = rw (le-leb tests 8 h)
+-- the room that it takes
+pub room-few : (tests n : ℕ) → tests ≤ 6 → roomFor tests n ≡ 4 * n
+room-few tests n h = rw (le-leb tests 6 h)
 
-pub width-many : (tests : ℕ) → 8 < tests → widthFor tests ≡ 8
-width-many tests h = rw (lt-leb tests 8 h)
+pub room-many : (tests n : ℕ) → 6 < tests → roomFor tests n ≡ 32 * n
+room-many tests n h = rw (lt-leb tests 6 h)
 
-pub width-fits : (tests width : ℕ) → width ≡ widthFor tests → (0 < width) × (width ≤ 64)
-width-fits tests width e = rw e (go (leb tests 8))
+pub room-less : (tests tests′ n m l l′ : ℕ) → tests′ ≡ tests → l′ ≡ l → n ≤ m → roomFor tests m ≤ l → roomFor tests′ n ≤ l′
+room-less tests tests′ n m l l′ e f h = rw (e, f) (go (leb tests 6))
   where
-    go : (t : Bool) → (0 < cond t 64 8) × (cond t 64 8 ≤ 64)
-    go true = (omega arith, omega arith)
-    go false = (omega arith, omega arith)
-
-pub width-same : (n width tests tests′ : ℕ) → n ≤ width → width ≡ widthFor tests → tests′ ≡ tests → n ≤ widthFor tests′
-width-same n width tests tests′ h e f = rw (f, ← e) h
+    go : (t : Bool) → cond t (4 * m) (32 * m) ≤ l → cond t (4 * n) (32 * n) ≤ l
+    go true g = omega arith
+    go false g = omega arith
 
 -- ---- what the loop over the groups needs and gives, d being the results so far
 module _ (p per : ℕ) (s xs d : List ℕ) where

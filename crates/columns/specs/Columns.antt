@@ -18,9 +18,9 @@ eachTest f per j n stream (r ∷ rs) = f (take n (drop j stream)) r ∷ eachTest
 abbrev pub addGroup : (p per j n : ℕ) (xs stream results : List ℕ) → List ℕ
 addGroup p per j n xs stream results = eachTest (λ bytes r. addMod p r (testOf p xs bytes)) per j n stream results
 
--- how many bytes of each test a group has, where there are so many tests
-abbrev pub widthFor : (tests : ℕ) → ℕ
-widthFor tests = cond (leb tests 8) 64 8
+-- so many words of a spare row are taken by n bytes of each of so many tests: four weights for a byte, or two tables of sixteen entries
+abbrev pub roomFor : (tests n : ℕ) → ℕ
+roomFor tests n = cond (leb tests 6) (4 * n) (32 * n)
 
 -- the group from byte j on: up to so many bytes, and the coordinates for them, as many as there are
 abbrev pub groupFrom : (j width per d : ℕ) → Group

@@ -10,7 +10,7 @@ use Rattle.columns.proofs.add_bytes.Statement.{statement}
 use Rattle.columns.proofs.add_bytes.Tie as tie
 
 write-weights-requires : tie.Need-write-weights-requires
-write-weights-requires c κs = search needs
+write-weights-requires c κs = c .before .before .before .before .before .pre .1 .1
 
 sub-weighed-sum : tie.Need-sub-weighed-sum
 sub-weighed-sum c = search needs
@@ -23,21 +23,21 @@ part-weighed-sum-end c = search needs
 
 weighed-sum-requires : tie.Need-weighed-sum-requires
 weighed-sum-requires c κs =
-    let s = c .before .before .before .before .before .before .before .before .before in
+    let s = c .before .before .before .before .before .before .before .before .before .before in
     (s .pre .1 .0 .1 .0, part-fits (s .args .xs .now) (s .args .bytes .now) _ (c .before .before .before .before .write-weights .ensures) (s .pre .1 .0 .1 .1))
 
 add-requires : tie.Need-add-requires
-add-requires c κs = (c .before .before .before .before .before .before .before .before .before .before .pre .0 .0, rw (c .weighed-sum .ensures) (evaluate-below p64 1 (lit< tt) _))
+add-requires c κs = (c .before .before .before .before .before .before .before .before .before .before .before .pre .0 .0, rw (c .weighed-sum .ensures) (evaluate-below p64 1 (lit< tt) _))
 
 sub-requires : tie.Need-sub-requires
-sub-requires c κs = (rw (c .add .ensures) (mod-lt _ (lit< tt)), rw (c .before .before .before .before .before .before .before .before .before .before .before .pre .0 .1) (evaluate-below p64 1 (lit< tt) _))
+sub-requires c κs = (rw (c .add .ensures) (mod-lt _ (lit< tt)), rw (c .before .before .before .before .before .before .before .before .before .before .before .before .pre .0 .1) (evaluate-below p64 1 (lit< tt) _))
 
 same-length : tie.Need-same-length
 same-length c = search needs
 
 returns : tie.Need-returns
 returns c =
-    let s = c .before .before .before .before .before .before .before .before .before .before .before .before in
+    let s = c .before .before .before .before .before .before .before .before .before .before .before .before .before in
     let w = c .before .before in
     let xs = s .args .xs .now in
     c .sub .ensures

@@ -5,13 +5,13 @@ use native.Mathlib.Nat.{sub-zero}
 use native.Mathlib.Omega.{arith}
 use lib.ListN.{length}
 use lib.Seq.{length-take-le}
-use Rattle.columns.proofs.Swapped.{width-few, width-many}
+use Rattle.columns.proofs.Swapped.{room-few, room-many}
 use borrow.Author.Needs.{needs}
 use Rattle.columns.proofs.add_group.Statement.{statement}
 use Rattle.columns.proofs.add_group.Tie as tie
 
-few : (c : tie.Then1) → c .before .before .before .before .before .args .n ≤ 64
-few c = omega (arith, c .before .before .before .before .before .pre .0 .1 .1, width-few _ (c .if1 .taken))
+few : (c : tie.Then1) → (c .before .before .before .before .before .args .n ≤ 64) × (4 * c .before .before .before .before .before .args .n ≤ length (c .before .before .before .before .before .args .spare .now))
+few c = (c .before .before .before .before .before .pre .0 .1 .1, omega (arith, room-few _ (c .before .before .before .before .before .args .n) (c .if1 .taken), c .before .before .before .before .before .pre .1 .0 .1 .1))
 
 mul-count : tie.Need-mul-count
 mul-count c = record { fits = omega (arith, few c) }
@@ -23,15 +23,14 @@ part-add-weighed-start : tie.Need-part-add-weighed-start
 part-add-weighed-start c = search needs
 
 part-add-weighed-end : tie.Need-part-add-weighed-end
-part-add-weighed-end c = omega (arith, few c, c .before .before .before .before .before .pre .1 .0 .1 .1)
+part-add-weighed-end c = omega (arith, few c)
 
 add-weighed-requires : tie.Need-add-weighed-requires
 add-weighed-requires c κs =
     let i = c .before .before in
     let s = i .before .before .before .before .before in
     let n = s .args .n in
-    let room : 4 * n ≤ length (s .args .spare .now) = omega (arith, few i, s .pre .1 .0 .1 .1) in
-    ((s .pre .0 .0, (s .pre .0 .1 .0, rw (sub-zero (4 * n)) (length-take-le (4 * n) (s .args .spare .now) room))), ((s .pre .1 .0 .0, (omega (arith, few i, s .pre .1 .0 .1 .0), s .pre .1 .0 .1 .0)), s .pre .1 .1))
+    ((s .pre .0 .0, (s .pre .0 .1 .0, rw (sub-zero (4 * n)) (length-take-le (4 * n) (s .args .spare .now) (few i .1)))), ((s .pre .1 .0 .0, (omega (arith, few i, s .pre .1 .0 .1 .0), s .pre .1 .0 .1 .0)), s .pre .1 .1))
 
 same-length : tie.Need-same-length
 same-length c = search needs
@@ -46,7 +45,7 @@ add-tabled-requires : tie.Need-add-tabled-requires
 add-tabled-requires c κs =
     let i = c .before .before in
     let s = i .before .before .before .before .before in
-    ((s .pre .0 .0, (s .pre .0 .1 .0, omega (arith, s .pre .0 .1 .1, width-many _ (i .if1 .left), s .pre .1 .0 .1 .1))), (s .pre .1 .0 .0, s .pre .1 .1))
+    ((s .pre .0 .0, (s .pre .0 .1 .0, omega (arith, room-many _ (s .args .n) (i .if1 .left), s .pre .1 .0 .1 .1))), (s .pre .1 .0 .0, s .pre .1 .1))
 
 same-length-3 : tie.Need-same-length-3
 same-length-3 c = search needs

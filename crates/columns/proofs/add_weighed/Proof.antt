@@ -10,14 +10,15 @@ use Rattle.rows.proofs.Walk.{Walking}
 use Rattle.flp.specs.Tests.{testOf}
 use Rattle.columns.specs.Columns.{addGroup}
 use Rattle.columns.proofs.Each.{small, inside, bytes-long, each-next, each-end}
+use Rattle.columns.proofs.Weights.{pairs-table}
 use Rattle.columns.proofs.add_weighed.Statement.{statement}
 use Rattle.columns.proofs.add_weighed.Tie as tie
 
 abbrev Inv-loop : tie.InvT-loop
-Inv-loop xs per j n stream weights₀ results₀ plain t₀ weights results t = (length weights ≡ length weights₀) × Walking (addGroup p64 per j n xs stream results₀) results₀ results t
+Inv-loop xs per j n stream weights₀ results₀ table plain t₀ weights results t = (length weights ≡ length weights₀) × Walking (addGroup p64 per j n xs stream results₀) results₀ results t
 
 abbrev μ-loop : tie.MeasureT-loop
-μ-loop xs per j n stream weights₀ results₀ plain t₀ weights results t = length results₀ - t
+μ-loop xs per j n stream weights₀ results₀ table plain t₀ weights results t = length results₀ - t
 
 -- what is made of the bytes of a test
 abbrev adds : (xs bytes : List ℕ) (r : ℕ) → ℕ
@@ -36,14 +37,14 @@ plain-sum-requires c κs = c .before .before .before .before .pre .1 .0 .1 .0
 loop-holds : tie.Need-loop-holds Inv-loop μ-loop
 loop-holds c = (refl, (search needs, refl, refl))
 
-mul-start : tie.Need-mul-start Inv-loop μ-loop
-mul-start c = record { fits = omega (arith, fits c) }
+mul-from : tie.Need-mul-from Inv-loop μ-loop
+mul-from c = record { fits = omega (arith, fits c) }
 
-add-start : tie.Need-add-start Inv-loop μ-loop
-add-start c = record { fits = omega (arith, fits c) }
+add-from : tie.Need-add-from Inv-loop μ-loop
+add-from c = record { fits = omega (arith, fits c) }
 
-add-end : tie.Need-add-end Inv-loop μ-loop
-add-end c = record { fits = omega (arith, fits c) }
+add-to : tie.Need-add-to Inv-loop μ-loop
+add-to c = record { fits = omega (arith, fits c) }
 
 mul-add-bytes : tie.Need-mul-add-bytes Inv-loop μ-loop
 mul-add-bytes c = omega arith
@@ -60,13 +61,16 @@ part-add-bytes-start c = omega arith
 part-add-bytes-end : tie.Need-part-add-bytes-end Inv-loop μ-loop
 part-add-bytes-end c = omega (arith, fits (c .before))
 
+slice-aggregate-add-bytes : tie.Need-slice-aggregate-add-bytes Inv-loop μ-loop
+slice-aggregate-add-bytes c = search needs
+
 add-bytes-requires : tie.Need-add-bytes-requires Inv-loop μ-loop
 add-bytes-requires c κs =
-    let l = c .before .before .before .before in
+    let l = c .before .before .before .before .before in
     let s = l .before .before .before .before .before .before in
-    let t = c .before .before .before .loop-test .taken in
+    let t = c .before .before .before .before .loop-test .taken in
     let e = bytes-long (adds (s .args .xs .now)) (s .args .per) (s .args .j) (s .args .n) (s .args .stream .now) (s .args .results .now) (l .loop .results) (l .loop .t) (l .loop .inv .1) t (s .pre .0 .0) (s .pre .0 .1 .0) in
-    ((small (adds (s .args .xs .now)) (s .args .per) (s .args .j) (s .args .n) (s .args .stream .now) (s .args .results .now) (l .loop .results) (l .loop .t) (l .loop .inv .1) t p64 (s .pre .1 .1), l .before .plain-sum .ensures), ((s .pre .1 .0 .0, (s .pre .1 .0 .1 .0, rw e (s .pre .1 .0 .1 .1))), rw e (l .loop .inv .0 ∙ s .pre .0 .1 .1)))
+    ((small (adds (s .args .xs .now)) (s .args .per) (s .args .j) (s .args .n) (s .args .stream .now) (s .args .results .now) (l .loop .results) (l .loop .t) (l .loop .inv .1) t p64 (s .pre .1 .1), l .before .plain-sum .ensures), ((s .pre .1 .0 .0, (s .pre .1 .0 .1 .0, rw e (s .pre .1 .0 .1 .1))), (pairs-table, (omega arith, rw e (l .loop .inv .0 ∙ s .pre .0 .1 .1)))))
 
 mul-results : tie.Need-mul-results Inv-loop μ-loop
 mul-results c = omega arith
@@ -83,9 +87,9 @@ loop-less c = omega arith
 loop-again : tie.Need-loop-again Inv-loop μ-loop
 loop-again c =
     let a = c .before .before in
-    let l = a .before .before .before .before .before in
+    let l = a .before .before .before .before .before .before in
     let s = l .before .before .before .before .before .before in
-    (a .add-bytes .kept .1 .1 .1 .1 .0 ∙ l .loop .inv .0, each-next (adds (s .args .xs .now)) (s .args .per) (s .args .j) (s .args .n) (s .args .stream .now) (s .args .results .now) (l .loop .results) (l .loop .t) (l .loop .inv .1) (a .before .before .before .before .loop-test .taken) (a .add-bytes .result) (a .add-bytes .ensures))
+    (a .add-bytes .kept .1 .1 .1 .1 .1 .0 ∙ l .loop .inv .0, each-next (adds (s .args .xs .now)) (s .args .per) (s .args .j) (s .args .n) (s .args .stream .now) (s .args .results .now) (l .loop .results) (l .loop .t) (l .loop .inv .1) (a .before .before .before .before .before .loop-test .taken) (a .add-bytes .result) (a .add-bytes .ensures))
 
 same-length : tie.Need-same-length Inv-loop μ-loop
 same-length c = c .before .loop .inv .0
@@ -107,14 +111,15 @@ add-weighed-spec =
     μ-loop
     plain-sum-requires
     loop-holds
-    mul-start
-    add-start
-    add-end
+    mul-from
+    add-from
+    add-to
     mul-add-bytes
     slice-read-add-bytes
     sub-add-bytes
     part-add-bytes-start
     part-add-bytes-end
+    slice-aggregate-add-bytes
     add-bytes-requires
     mul-results
     slice-write-results
