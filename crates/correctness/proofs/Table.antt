@@ -97,4 +97,8 @@ table = record {
   later-test = refl;
   later-coordinate = refl;
   second-row = refl;
+  tighter = refl;
+  too-tight = refl;
+  wide = refl;
+  no-multiplier = refl;
 }

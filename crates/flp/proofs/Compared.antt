@@ -111,3 +111,32 @@ lent = record {
   part-short = refl;
   part-element = refl;
 }
+
+-- ---- other multipliers. n 1, d 4, f 0, c = e = 1, T 2, K 2
+abbrev multiplied : (num den : ℕ) → PineParam
+multiplied num den = record {
+  «norm_bound» = 1;
+  dimension = 4;
+  «frac_bits» = 0;
+  «chunk_len» = 1;
+  «chunk_len_sq_norm_equal» = 1;
+  «num_wr_tests» = 2;
+  «num_wr_successes» = 2;
+  «alpha_numerator» = num;
+  «alpha_denominator» = den;
+}
+
+record Multiplied : Type 0 where
+  -- 19 comes before 7, which each of these breaks too
+  encode : encodeAnswer Field64 (multiplied 0 1) [] [] [] [] ≡ answer 19 0
+  alone : runTestsOf Field64 (multiplied 1 0) [] [] [] ≡ outcome (answer 19 0) []
+  circuit : validOf Field64 (multiplied 0 0) 0 [] [] .answer ≡ answer 19 0
+  circuit-equal : validEqualOf Field64 (multiplied 1 0) 0 [] .answer ≡ answer 19 0
+  part : gradientPartOf Field64 (multiplied 0 1) [] ≡ outcome (answer 19 0) []
+  -- 1 / 1: b and w are 2. The gradient 1 0 0 0 with the stream 0x03 0x00; then the first test's number is 1, not 2
+  report : validOf Field64 (multiplied 1 1) 1 (1 ∷ 0 ∷ 0 ∷ 0 ∷ 1 ∷ 0 ∷ 0 ∷ 1 ∷ 1 ∷ 0 ∷ 0 ∷ 1 ∷ 1 ∷ (p64 - 1) ∷ []) (5 ∷ 7 ∷ 11 ∷ []) ≡ record { answer = accepted; value = 0; «gadget_calls» = 10 }
+  other-number : validOf Field64 (multiplied 1 1) 1 (1 ∷ 0 ∷ 0 ∷ 0 ∷ 1 ∷ 0 ∷ 1 ∷ 0 ∷ 1 ∷ 0 ∷ 0 ∷ 1 ∷ 1 ∷ (p64 - 1) ∷ []) (5 ∷ 7 ∷ 11 ∷ []) ≡ record { answer = accepted; value = 121; «gadget_calls» = 10 }
+
+multiplied-rows : Multiplied
+unfolding encodeOf encodeRules measurementOf resultsOf coordinatesRule rangeRule elements sqNorm testBits bits evaluate groups pairs weighed weigh testOf testsOf halvings digits sqNormBound sqNormBits wrTestBound wrTestBits bitCheckedLen encodedInputLen element floorOf floorDiv modP unusable paramAnswer paramRules ofBits validOf validRules validValue validCalls gradientPart checkedPart resultsPart testParts testNumber successBit normV normU termA termN testTerms termW termG chunksTaken inverseFrom inputLen validEqualOf validEqualRules validEqualValue validEqualCalls runTestsOf runTestsRules gradientPartOf checkedPartOf resultsPartOf partOf partRules
+multiplied-rows = record { encode = refl; alone = refl; circuit = refl; circuit-equal = refl; part = refl; report = refl; other-number = refl }
