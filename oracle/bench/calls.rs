@@ -507,7 +507,7 @@ fn empty_aggregate(d: usize) -> Row {
 }
 
 type Adding = unsafe extern "C" fn(Param, *mut u64, usize, *const u64, usize) -> Answer;
-type AddingByHand = fn([u64; 7], &mut [u64], &[u64]) -> Outcome<()>;
+type AddingByHand = fn(Param, &mut [u64], &[u64]) -> Outcome<()>;
 type OriginalAdding = fn(&mut PineVec<Field64>, &PineVec<Field64>);
 
 fn original_adding(call: OriginalAdding) -> Way<Two> {
