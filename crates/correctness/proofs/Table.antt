@@ -98,7 +98,6 @@ table = record {
   later-coordinate = refl;
   second-row = refl;
   tighter = refl;
-  too-tight = refl;
   wide = refl;
   no-multiplier = refl;
 }

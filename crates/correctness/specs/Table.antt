@@ -1,4 +1,4 @@
--- The worked examples of document 01, "Bench rows", that are marked P, three rows at places other than 0 and four of other multipliers, over the definitions that the contracts cite. A double is given by its bit pattern. Assumes nothing.
+-- The worked examples of document 01, "Bench rows", that are marked P, three rows at places other than 0 and three of other multipliers, over the definitions that the contracts cite. A double is given by its bit pattern. Assumes nothing.
 use Prim.Native.Nat.{ℕ, _+_, _-_, _*_, _/_, _^_, _≤_}
 use mathlib.Core.Path.{_≡_}
 use mathlib.Core.List.{[], _∷_}
@@ -117,8 +117,6 @@ pub record Table : Type 0 where
   -- the first row of encoding with the multiplier 1 / 1: b is 2, and a test's number has 2 bits
   pub tighter : encodeOf Field64 (multiplied 1 1 1 4 2 2) (one ∷ none ∷ none ∷ none ∷ []) (3 ∷ 0 ∷ []) (replicate 12 7) (replicate 2 7)
       ≡ encodeOutcome accepted (1 ∷ 0 ∷ 0 ∷ 0 ∷ 1 ∷ 0 ∷ 0 ∷ 1 ∷ 1 ∷ 0 ∷ 0 ∷ 1 ∷ []) (1 ∷ (p64 - 1) ∷ [])
-  -- n 2, gradient 1 1 1 1 with 1 / 2: b is 2 again, and the second test's result is -4
-  pub too-tight : encodeOf Field64 (multiplied 1 2 2 4 2 2) (one ∷ one ∷ one ∷ one ∷ []) (15 ∷ 0 ∷ []) (replicate 16 7) (replicate 2 7) ≡ encodeOutcome (answer 11 1) (replicate 16 7) (replicate 2 7)
   -- n 65536, gradient 4294967296.0, stream 0x03 with 65535 / 1: b is 4294967296, and the result just in range, though the squared norm has wrapped
   pub wide : encodeOf Field64 (multiplied 65535 1 65536 1 1 1) (large ∷ []) (3 ∷ []) (replicate 101 7) (replicate 1 7) .answer ≡ accepted
   -- a denominator of 0, and rows of other lengths: 19 before 7
