@@ -1,4 +1,4 @@
--- The cases of encoding: refused by rules 1 to 9 or 17, or by 10 or 11, or accepted. Assumes nothing.
+-- The cases of encoding: refused by rules 1 to 9, 17 or 19, or by 10 or 11, or accepted. Assumes nothing.
 use mathlib.Core.Path.{_≡_, refl, sym, ap, _∙_}
 use mathlib.Core.Bool.{Bool, true, false, cond}
 use mathlib.Core.List.{List, [], _∷_, _++_}
@@ -51,7 +51,7 @@ module _ (F : Field) (i : PineParam) (g : List Float) (s m r : List ℕ) where
   abbrev xs : List ℕ
   xs = elements (F .p) (i .«frac_bits») g
 
-  -- ---- rules 1 to 9 and 17
+  -- ---- rules 1 to 9, 17 and 19
 
   -- one of the first six is broken
   pub early-stopped : (a : Answer) → a ≡ paramAnswer F i → (a .number ≡ 0 → ⊥) → a ≡ early
