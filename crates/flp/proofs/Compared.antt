@@ -8,7 +8,7 @@ use Rattle.field64.specs.Field.{p64, inverseFrom}
 use Rattle.doubles.specs.Doubles.{floorDiv, modP, unusable, floorOf, element}
 use Rattle.pine.specs.declared.PineParam.{PineParam}
 use Rattle.rules.specs.Rules.{answer, accepted}
-use Rattle.pine.specs.Param.{Field64, paramRules, paramAnswer, standard}
+use Rattle.pine.specs.Param.{Field64, paramRules, paramAnswer, standard, withAlpha}
 use Rattle.pine.specs.Record.{halvings, digits, sqNormBound, sqNormBits, wrTestBound, wrTestBits, bitCheckedLen, encodedInputLen, inputLen}
 use Rattle.field64.specs.Sums.{evaluate}
 use Rattle.rows.specs.Outcome.{Outcome, outcome}
@@ -114,17 +114,7 @@ lent = record {
 
 -- ---- other multipliers. d 4, f 0, c = e = 1, T 2, K 2
 abbrev multiplied : (n num den : ℕ) → PineParam
-multiplied n num den = record {
-  «norm_bound» = n;
-  dimension = 4;
-  «frac_bits» = 0;
-  «chunk_len» = 1;
-  «chunk_len_sq_norm_equal» = 1;
-  «num_wr_tests» = 2;
-  «num_wr_successes» = 2;
-  «alpha_numerator» = num;
-  «alpha_denominator» = den;
-}
+multiplied n num den = withAlpha num den (standard n 4 0 1 1 2 2)
 
 -- 1.0
 abbrev one : Float

@@ -3,22 +3,12 @@ use mathlib.Core.Path.{_≡_, refl}
 use Prim.Native.Nat.{ℕ, _^_}
 use Rattle.rules.specs.Rules.{answer, accepted}
 use Rattle.pine.specs.declared.PineParam.{PineParam}
-use Rattle.pine.specs.Param.{Field64, paramRules, paramAnswer, standard}
+use Rattle.pine.specs.Param.{Field64, paramRules, paramAnswer, standard, withAlpha}
 use Rattle.pine.specs.Record.{halvings, digits, sqNormBound, sqNormBits, wrTestBound, wrTestExponent, wrTestBits, bitCheckedLen, encodedInputLen, inputLen}
 
 -- d 4, f 0, c = e = 1, K 2
 abbrev inputs : (n T num den : ℕ) → PineParam
-inputs n T num den = record {
-  «norm_bound» = n;
-  dimension = 4;
-  «frac_bits» = 0;
-  «chunk_len» = 1;
-  «chunk_len_sq_norm_equal» = 1;
-  «num_wr_tests» = T;
-  «num_wr_successes» = 2;
-  «alpha_numerator» = num;
-  «alpha_denominator» = den;
-}
+inputs n T num den = withAlpha num den (standard n 4 0 1 1 T 2)
 
 record Bounds : Type 0 where
   -- ceil (1 / 65535) + 1 = 2, the least that there is

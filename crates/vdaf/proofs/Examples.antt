@@ -8,7 +8,7 @@ use Rattle.rules.specs.Rules.{answer, accepted}
 use Rattle.field64.specs.Field.{p64}
 use Rattle.doubles.specs.Doubles.{plusZero, centred, decoded}
 use Rattle.pine.specs.declared.PineParam.{PineParam}
-use Rattle.pine.specs.Param.{Field64, paramRules, paramAnswer, standard}
+use Rattle.pine.specs.Param.{Field64, paramRules, paramAnswer, standard, withAlpha}
 use Rattle.rows.specs.Outcome.{Outcome, outcome}
 use Rattle.vdaf.specs.Aggregates.{emptyAnswer, emptyOf, accumulateAnswer, accumulateOf, subtractOf, UnshardOutcome, unshardOutcome, decodedSums, unshardAnswer, unshardOf}
 
@@ -18,7 +18,7 @@ inputs d f = standard 1 d f 1 1 1 1
 
 -- refused by 19, the last of the rules on inputs
 abbrev without-multiplier : (d : ℕ) → PineParam
-without-multiplier d = record { «norm_bound» = 1; dimension = d; «frac_bits» = 0; «chunk_len» = 1; «chunk_len_sq_norm_equal» = 1; «num_wr_tests» = 1; «num_wr_successes» = 1; «alpha_numerator» = 87; «alpha_denominator» = 0 }
+without-multiplier d = withAlpha 87 0 (inputs d 0)
 
 -- ---- emptying: what the row held does not matter, its length does
 record Emptying : Type 0 where
