@@ -59,7 +59,7 @@ module _ (F : Field) (i : PineParam) (g : List Float) (s m r : List ℕ) where
   abbrev xs : List ℕ
   xs = elements (F .p) (i .«frac_bits») g
 
-  -- ---- rules 1 to 9 and 17
+  -- ---- rules 1 to 9, 17 and 19
 
   -- one of the first six is broken
   pub early-stopped : (a : Answer) → a ≡ paramAnswer F i → (a .number ≡ 0 → ⊥) → a ≡ early

@@ -8,7 +8,7 @@ ghost use Rattle.rules.specs.Rules.{accepted, inOrder};
 ghost use Rattle.pine.specs.Param.{Field64};
 ghost use Rattle.flp.specs.Encode.{encodeRules, encodeOutcome, encodeOf};
 
-// Rules 1 to 9 and 17, of encoding.
+// Rules 1 to 9, 17 and 19, of encoding.
 fn check_encode(
     param: PineParam,
     gradient: &[f64],

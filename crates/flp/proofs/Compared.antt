@@ -1,4 +1,4 @@
--- Rows with the answers of the original Rust, one row for each refusal (that of 10 is in the table of `correctness`), and rows of the calls that the Rust does not have, computed from the definitions. Assumes nothing.
+-- Rows with the answers of the original Rust, one row for each refusal (that of 10 is in the table of `correctness`), and rows of the calls and multipliers that the Rust does not have, computed from the definitions. Assumes nothing.
 use mathlib.Core.Path.{_≡_, refl}
 use mathlib.Core.List.{List, [], _∷_}
 use Prim.Native.Nat.{ℕ, _-_}
@@ -8,7 +8,7 @@ use Rattle.field64.specs.Field.{p64, inverseFrom}
 use Rattle.doubles.specs.Doubles.{floorDiv, modP, unusable, floorOf, element}
 use Rattle.pine.specs.declared.PineParam.{PineParam}
 use Rattle.rules.specs.Rules.{answer, accepted}
-use Rattle.pine.specs.Param.{Field64, paramRules, paramAnswer, standard}
+use Rattle.pine.specs.Param.{Field64, paramRules, paramAnswer, standard, withAlpha}
 use Rattle.pine.specs.Record.{halvings, digits, sqNormBound, sqNormBits, wrTestBound, wrTestBits, bitCheckedLen, encodedInputLen, inputLen}
 use Rattle.field64.specs.Sums.{evaluate}
 use Rattle.rows.specs.Outcome.{Outcome, outcome}
@@ -111,3 +111,31 @@ lent = record {
   part-short = refl;
   part-element = refl;
 }
+
+-- ---- other multipliers. d 4, f 0, c = e = 1, T 2, K 2
+abbrev multiplied : (n num den : ℕ) → PineParam
+multiplied n num den = withAlpha num den (standard n 4 0 1 1 2 2)
+
+-- 1.0
+abbrev one : Float
+one = double 0x3ff0_0000_0000_0000
+
+record Multiplied : Type 0 where
+  -- 19 comes before 7, which each of these breaks too
+  encode : encodeAnswer Field64 (multiplied 1 0 1) [] [] [] [] ≡ answer 19 0
+  alone : runTestsOf Field64 (multiplied 1 1 0) [] [] [] ≡ outcome (answer 19 0) []
+  circuit : validOf Field64 (multiplied 1 0 0) 0 [] [] .answer ≡ answer 19 0
+  circuit-equal : validEqualOf Field64 (multiplied 1 1 0) 0 [] .answer ≡ answer 19 0
+  part : gradientPartOf Field64 (multiplied 1 0 1) [] ≡ outcome (answer 19 0) []
+  -- 1 / 2 and n 2, so that b and w are 2; then 3 / 2, b 4 and w 3: -4 is out of range still, and -3 is in
+  tight : encodeAnswer Field64 (multiplied 2 1 2) (one ∷ one ∷ one ∷ one ∷ []) (15 ∷ 0 ∷ []) (replicate 16 7) (replicate 2 7) ≡ answer 11 1
+  looser : encodeAnswer Field64 (multiplied 2 3 2) (one ∷ one ∷ one ∷ one ∷ []) (15 ∷ 0 ∷ []) (replicate 18 7) (replicate 2 7) ≡ answer 11 1
+  loose : encodeOf Field64 (multiplied 2 3 2) (one ∷ one ∷ one ∷ one ∷ []) (15 ∷ 64 ∷ []) (replicate 18 7) (replicate 2 7)
+      ≡ encodeOutcome accepted (1 ∷ 1 ∷ 1 ∷ 1 ∷ 0 ∷ 0 ∷ 1 ∷ 0 ∷ 0 ∷ 0 ∷ 1 ∷ 1 ∷ 0 ∷ 1 ∷ 0 ∷ 0 ∷ 0 ∷ 1 ∷ []) (0 ∷ (p64 - 3) ∷ [])
+  -- 1 / 1: b and w are 2. The gradient 1 0 0 0 with the stream 0x03 0x00; then the first test's number is 1, not 2
+  report : validOf Field64 (multiplied 1 1 1) 1 (1 ∷ 0 ∷ 0 ∷ 0 ∷ 1 ∷ 0 ∷ 0 ∷ 1 ∷ 1 ∷ 0 ∷ 0 ∷ 1 ∷ 1 ∷ (p64 - 1) ∷ []) (5 ∷ 7 ∷ 11 ∷ []) ≡ record { answer = accepted; value = 0; «gadget_calls» = 10 }
+  other-number : validOf Field64 (multiplied 1 1 1) 1 (1 ∷ 0 ∷ 0 ∷ 0 ∷ 1 ∷ 0 ∷ 1 ∷ 0 ∷ 1 ∷ 0 ∷ 0 ∷ 1 ∷ 1 ∷ (p64 - 1) ∷ []) (5 ∷ 7 ∷ 11 ∷ []) ≡ record { answer = accepted; value = 121; «gadget_calls» = 10 }
+
+multiplied-rows : Multiplied
+unfolding encodeOf encodeRules measurementOf resultsOf coordinatesRule rangeRule elements sqNorm testBits bits evaluate groups pairs weighed weigh testOf testsOf halvings digits sqNormBound sqNormBits wrTestBound wrTestBits bitCheckedLen encodedInputLen element floorOf floorDiv modP unusable paramAnswer paramRules ofBits validOf validRules validValue validCalls gradientPart checkedPart resultsPart testParts testNumber successBit normV normU termA termN testTerms termW termG chunksTaken inverseFrom inputLen validEqualOf validEqualRules validEqualValue validEqualCalls runTestsOf runTestsRules gradientPartOf checkedPartOf resultsPartOf partOf partRules
+multiplied-rows = record { encode = refl; alone = refl; circuit = refl; circuit-equal = refl; part = refl; tight = refl; looser = refl; loose = refl; report = refl; other-number = refl }

@@ -35,6 +35,20 @@ standard n d f c e T K = record {
   «true_sq_norm» = false;
 }
 
+-- the same inputs with the multiplier num / den
+abbrev pub withAlpha : (num den : ℕ) → PineParam → PineParam
+withAlpha num den i = record {
+  «norm_bound» = i .«norm_bound»;
+  dimension = i .dimension;
+  «frac_bits» = i .«frac_bits»;
+  «chunk_len» = i .«chunk_len»;
+  «chunk_len_sq_norm_equal» = i .«chunk_len_sq_norm_equal»;
+  «num_wr_tests» = i .«num_wr_tests»;
+  «num_wr_successes» = i .«num_wr_successes»;
+  «alpha_numerator» = num;
+  «alpha_denominator» = den;
+}
+
 -- one chunk length
 abbrev pub chunkRule : ℕ → Answer
 chunkRule c = refuse (outOf c 65536) 5 0

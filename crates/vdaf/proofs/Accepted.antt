@@ -23,7 +23,7 @@ pub record TwoRows (F : Field) (i : PineParam) (left right : List ℕ) : Type 0 
   pub left-below : Below (F .p) left
   pub right-below : Below (F .p) right
 
--- from the answers of rules 1 to 6, 7 and 12
+-- from the answers of the rules on the inputs, 7 and 12
 two-rows : (F : Field) (i : PineParam) (left right : List ℕ) → paramAnswer F i .number ≡ 0 → rowRule 1 (length left) (i .dimension) .number ≡ 0 → rowRule 2 (length right) (i .dimension) .number ≡ 0
     → elementsRule (F .p) (left ++ right) .number ≡ 0 → TwoRows F i left right
 two-rows F i left right h l r e =

@@ -32,11 +32,11 @@ module _ (F : Field) (i : PineParam) where
   abbrev row-rule : {A : Type 0} → ℕ → List A → Answer
   row-rule k xs = rowRule k (length xs) (i .dimension)
 
-  -- rules 1 to 7 of two rows, by their lengths
+  -- the rules on the inputs, and 7, of two rows, by their lengths
   abbrev lens : (n m : ℕ) → Answer
   lens n m = first (paramAnswer F i) (first (rowRule 1 n (i .dimension)) (rowRule 2 m (i .dimension)))
 
-  -- ---- rules 1 to 6 refuse, or their inputs are accepted and the record's dimension serves
+  -- ---- the rules on the inputs refuse, or the inputs are accepted and the record's dimension serves
 
   module _ (a : Answer) (e : a ≡ paramAnswer F i) where
     pub stopped : (rest : Answer) → (a .number ≡ 0 → ⊥) → a ≡ first (paramAnswer F i) rest
@@ -62,7 +62,7 @@ module _ (F : Field) (i : PineParam) where
         unfolding emptyAnswer
         empty-verdict row b g = by-record 1 (length row) b g ∙ sym (rw inputs-met (row-last 1 (length row) (i .dimension)))
 
-  -- ---- rules 1 to 7 of two rows, and then the others
+  -- ---- the rules on the inputs, and 7, of two rows, and then the others
 
   pub accumulate-verdict : (agg share : List ℕ) (a r : Answer) → a ≡ lens (length agg) (length share) → r ≡ first a (elementsRule (F .p) (agg ++ share)) → r ≡ accumulateAnswer F i agg share
   unfolding accumulateAnswer

@@ -14,7 +14,7 @@ ghost use Rattle.rows.specs.Rows.{rowRule, Below};
 ghost use Rattle.rows.specs.Outcome.{outcome};
 ghost use Rattle.vdaf.specs.Aggregates.{emptyAnswer, emptyOf, accumulateAnswer, accumulateOf, subtractOf, unshardOutcome, decodedSums, unshardAnswer, unshardOf};
 
-// Rules 1 to 7 of two rows of these lengths.
+// The rules on the inputs, and 7, of two rows of these lengths.
 fn check_lens(param: PineParam, left: usize, right: usize) -> Answer
     ensures { λ r. ⌜ r ≡ first (paramAnswer Field64 param) (first (rowRule 1 left (param .dimension)) (rowRule 2 right (param .dimension))) ⌝ }
 {

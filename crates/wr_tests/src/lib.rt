@@ -8,7 +8,7 @@ ghost use Rattle.pine.specs.Param.{Field64};
 ghost use Rattle.rows.specs.Outcome.{outcome};
 ghost use Rattle.flp.specs.Tests.{runTestsRules, runTestsOf};
 
-// Rules 1 to 7 and 12, of the wraparound tests.
+// The rules of the wraparound tests: those on the inputs, 7 and 12.
 fn check_run_wr_tests(param: PineParam, gradient: &[u64], stream: &[u8], results: &[u64]) -> Answer
     ensures { λ r. ⌜ r ≡ inOrder (runTestsRules Field64 param (now (gradient .entry)) (now (stream .entry)) (now (results .entry))) ⌝ }
 {
