@@ -97,4 +97,15 @@ table = record {
   later-test = refl;
   later-coordinate = refl;
   second-row = refl;
+  missed = refl;
+  missed-every = refl;
+  just-enough = refl;
+  too-few = refl;
+  all-asked = refl;
+  all-in-range = refl;
+  all-in-range-every = refl;
+  none-in-range = refl;
+  none-in-range-every = refl;
+  none-found = refl;
+  long-first = refl;
 }
