@@ -1,4 +1,4 @@
--- Lists of calls run, with refused ones and withdrawals in them: what the statements ask can be met. Assumes nothing.
+-- Lists of calls run, with refused ones and withdrawals in them, and reports by either rule of the tests: what the statements ask can be met. Assumes nothing.
 use mathlib.Core.Path.{_≡_, refl, ap, subst}
 use mathlib.Core.Bool.{Bool, true, false}
 use mathlib.Core.List.{List, [], _∷_}
@@ -10,12 +10,13 @@ use lib.Dec.{lit≤}
 use lib.Ieee.{ofBits, round, ofInt, div}
 use Rattle.correctness.proofs.Correctness.{correctness-64}
 use Rattle.correctness.proofs.Table.{table}
-use Rattle.correctness.specs.Correctness.{Report}
-use Rattle.correctness.specs.Table.{param, none, one, large}
+use Rattle.correctness.specs.Correctness.{Report, TestsAdd, CircuitsZero}
+use Rattle.correctness.specs.Table.{param, narrow, none, one, two, three, large}
 use Rattle.rows.proofs.Elements.{elements-below}
 use Rattle.field64.specs.Field.{p64}
 use Rattle.doubles.specs.Doubles.{modP, floorDiv, floorOf, plusZero}
 use Rattle.pine.specs.declared.PineParam.{PineParam}
+use Rattle.pine.specs.declared.WrTestRule.the-variants.{Enough}
 use Rattle.pine.specs.Param.{Field64, paramRules, paramAnswer, standard}
 use Rattle.rows.specs.Rows.{addRows, elementsRule}
 use Rattle.vdaf.specs.Aggregates.{emptyAnswer, emptyOf, accumulateAnswer, accumulateOf, subtractOf, unshardOf}
@@ -214,3 +215,44 @@ decoded-sum : getD (unshardOf Field64 inputs (run Field64 empties report-calls 0
 unfolding paramAnswer paramRules sumℤ floorOf floorDiv ofBits ofInt div round a-report
 decoded-sum =
     correctness-64 inputs refl empties empties-begun report-calls (a-report ∷ []) .decoded 0 1 joined-report (large ∷ large ∷ large ∷ large ∷ []) refl .at 0 (omega arith) (lit≤ tt)
+
+-- ---- a report in which two tests miss, cut in two
+
+abbrev missed-left : List ℕ
+missed-left = replicate 30 18446744069414584320
+
+abbrev missed-right : List ℕ
+missed-right = 4 ∷ 3 ∷ 2 ∷ 1 ∷ 2 ∷ 2 ∷ 1 ∷ 2 ∷ 2 ∷ 1 ∷ 1 ∷ 1 ∷ 2 ∷ 2 ∷ 2 ∷ 1 ∷ 1 ∷ 1 ∷ 1 ∷ 1 ∷ 1 ∷ 1 ∷ 1 ∷ 2 ∷ 1 ∷ 2 ∷ 1 ∷ 2 ∷ 1 ∷ 1 ∷ []
+
+missed-report : Report Field64 (narrow Enough 6 2)
+missed-report = record {
+  gradient = three ∷ two ∷ [];
+  stream = 13 ∷ 15 ∷ 1 ∷ 12 ∷ 3 ∷ 5 ∷ [];
+  found-measurement = replicate 30 7;
+  found-results = replicate 6 7;
+  measurement = 3 ∷ 2 ∷ 1 ∷ 0 ∷ 1 ∷ 1 ∷ 0 ∷ 1 ∷ 1 ∷ 0 ∷ 0 ∷ 0 ∷ 1 ∷ 1 ∷ 1 ∷ 0 ∷ 0 ∷ 0 ∷ 0 ∷ 0 ∷ 0 ∷ 0 ∷ 0 ∷ 1 ∷ 0 ∷ 1 ∷ 0 ∷ 1 ∷ 0 ∷ 0 ∷ [];
+  results = 2 ∷ 5 ∷ (p64 - 2) ∷ (p64 - 1) ∷ 1 ∷ 0 ∷ [];
+  call = table .missed;
+  left = missed-left;
+  right = missed-right;
+  left-row = row-of missed-left refl;
+  right-row = row-of missed-right refl;
+  adds = refl;
+}
+
+-- by the theorem: its tests add up and both circuits are zero, as where every test is in range
+missed-tests : TestsAdd Field64 (narrow Enough 6 2) missed-report
+unfolding paramAnswer paramRules
+missed-tests = correctness-64 (narrow Enough 6 2) refl start begun [] (missed-report ∷ []) .tests .0
+
+missed-circuits : CircuitsZero Field64 (narrow Enough 6 2) missed-report
+unfolding paramAnswer paramRules
+missed-circuits = correctness-64 (narrow Enough 6 2) refl start begun [] (missed-report ∷ []) .circuits .0
+
+every-tests : TestsAdd Field64 inputs a-report
+unfolding paramAnswer paramRules
+every-tests = correctness-64 inputs refl empties empties-begun [] (a-report ∷ []) .tests .0
+
+every-circuits : CircuitsZero Field64 inputs a-report
+unfolding paramAnswer paramRules
+every-circuits = correctness-64 inputs refl empties empties-begun [] (a-report ∷ []) .circuits .0

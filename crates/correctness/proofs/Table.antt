@@ -100,4 +100,15 @@ table = record {
   tighter = refl;
   wide = refl;
   no-multiplier = refl;
+  missed = refl;
+  missed-every = refl;
+  just-enough = refl;
+  too-few = refl;
+  all-asked = refl;
+  all-in-range = refl;
+  all-in-range-every = refl;
+  none-in-range = refl;
+  none-in-range-every = refl;
+  none-found = refl;
+  long-first = refl;
 }

@@ -1,6 +1,7 @@
--- The worked examples of document 01, "Bench rows", that are marked P, three rows at places other than 0 and three of other multipliers, over the definitions that the contracts cite. A double is given by its bit pattern. Assumes nothing.
+-- The worked examples of document 01, "Bench rows", that are marked P, three rows at places other than 0, and rows of other multipliers and of the two rules of the tests (document 02, g and i), over the definitions that the contracts cite. A double is given by its bit pattern. Assumes nothing.
 use Prim.Native.Nat.{ℕ, _+_, _-_, _*_, _/_, _^_, _≤_}
 use mathlib.Core.Path.{_≡_}
+use mathlib.Core.Bool.{false}
 use mathlib.Core.List.{[], _∷_}
 use lib.ListN.{take, drop, replicate}
 use lib.Ieee.{Float, binary64, ofBits}
@@ -11,7 +12,9 @@ use Rattle.doubles.specs.declared.Coordinate.{Coordinate}
 use Rattle.doubles.specs.declared.Decoded.{Decoded}
 use Rattle.field64.specs.Sums.{number}
 use Rattle.pine.specs.declared.PineParam.{PineParam}
-use Rattle.pine.specs.Param.{Field64, standard, withAlpha}
+use Rattle.pine.specs.declared.WrTestRule.{WrTestRule}
+use Rattle.pine.specs.declared.WrTestRule.the-variants.{Every, Enough}
+use Rattle.pine.specs.Param.{Field64, standard, withLater, withAlpha}
 use Rattle.pine.specs.Record.{wrTestBound}
 use Rattle.rows.specs.Outcome.{outcome}
 use Rattle.flp.specs.Encode.{encodeOutcome, encodeOf}
@@ -45,6 +48,20 @@ one = double 0x3ff0_0000_0000_0000
 
 abbrev pub large : Float
 large = double 0x41f0_0000_0000_0000
+
+-- n 4, d 2, f 0, c = e = 1 and the multiplier 1 / 4: B is 16 of five bits, b is 2, so that a test is in range from -1 to 2, and w is 2
+abbrev pub narrow : WrTestRule → (T K : ℕ) → PineParam
+narrow rule T K = withLater 1 4 rule false (param 4 2 T K)
+
+-- 2.0, 3.0 and 4.0
+abbrev pub two : Float
+two = double 0x4000_0000_0000_0000
+
+abbrev pub three : Float
+three = double 0x4008_0000_0000_0000
+
+abbrev pub four : Float
+four = double 0x4010_0000_0000_0000
 
 pub record Table : Type 0 where
   -- -0.25, f 0
@@ -107,3 +124,21 @@ pub record Table : Type 0 where
   pub wide : encodeOf Field64 (withAlpha 65535 1 (param 65536 1 1 1)) (large ∷ []) (3 ∷ []) (replicate 101 7) (replicate 1 7) .answer ≡ accepted
   -- a denominator of 0, and rows of other lengths: 19 before 7
   pub no-multiplier : encodeOf Field64 (withAlpha 87 0 (param 1 4 2 2)) (one ∷ none ∷ none ∷ none ∷ []) (3 ∷ []) (replicate 5 7) (replicate 2 7) ≡ encodeOutcome (answer 19 0) (replicate 5 7) (replicate 2 7)
+  -- the gradient 3 2, with v 13, and six tests: 2, 5, -2, -1, 1 and 0; the second and the third miss. Of at least two the first two in range have success bit 1: the fourth, and not the fifth and sixth
+  pub missed : encodeOf Field64 (narrow Enough 6 2) (three ∷ two ∷ []) (13 ∷ 15 ∷ 1 ∷ 12 ∷ 3 ∷ 5 ∷ []) (replicate 30 7) (replicate 6 7)
+      ≡ encodeOutcome accepted (3 ∷ 2 ∷ 1 ∷ 0 ∷ 1 ∷ 1 ∷ 0 ∷ 1 ∷ 1 ∷ 0 ∷ 0 ∷ 0 ∷ 1 ∷ 1 ∷ 1 ∷ 0 ∷ 0 ∷ 0 ∷ 0 ∷ 0 ∷ 0 ∷ 0 ∷ 0 ∷ 1 ∷ 0 ∷ 1 ∷ 0 ∷ 1 ∷ 0 ∷ 0 ∷ []) (2 ∷ 5 ∷ (p64 - 2) ∷ (p64 - 1) ∷ 1 ∷ 0 ∷ [])
+  -- the same, every one in range: 11, 1
+  pub missed-every : encodeOf Field64 (narrow Every 6 2) (three ∷ two ∷ []) (13 ∷ 15 ∷ 1 ∷ 12 ∷ 3 ∷ 5 ∷ []) (replicate 30 7) (replicate 6 7) ≡ encodeOutcome (answer 11 1) (replicate 30 7) (replicate 6 7)
+  -- four are in range: K 4 is enough, K 5 and K 6 are refused by 20, 4
+  pub just-enough : encodeOf Field64 (narrow Enough 6 4) (three ∷ two ∷ []) (13 ∷ 15 ∷ 1 ∷ 12 ∷ 3 ∷ 5 ∷ []) (replicate 30 7) (replicate 6 7) .answer ≡ accepted
+  pub too-few : encodeOf Field64 (narrow Enough 6 5) (three ∷ two ∷ []) (13 ∷ 15 ∷ 1 ∷ 12 ∷ 3 ∷ 5 ∷ []) (replicate 30 7) (replicate 6 7) ≡ encodeOutcome (answer 20 4) (replicate 30 7) (replicate 6 7)
+  pub all-asked : encodeOf Field64 (narrow Enough 6 6) (three ∷ two ∷ []) (13 ∷ 15 ∷ 1 ∷ 12 ∷ 3 ∷ 5 ∷ []) (replicate 30 7) (replicate 6 7) ≡ encodeOutcome (answer 20 4) (replicate 30 7) (replicate 6 7)
+  -- K = T, both in range: 2 and 1, the same by either rule
+  pub all-in-range : encodeOf Field64 (narrow Enough 2 2) (three ∷ two ∷ []) (13 ∷ 3 ∷ []) (replicate 18 7) (replicate 2 7) ≡ encodeOutcome accepted (3 ∷ 2 ∷ 1 ∷ 0 ∷ 1 ∷ 1 ∷ 0 ∷ 1 ∷ 1 ∷ 0 ∷ 0 ∷ 0 ∷ 1 ∷ 1 ∷ 1 ∷ 0 ∷ 1 ∷ 1 ∷ []) (2 ∷ 1 ∷ [])
+  pub all-in-range-every : encodeOf Field64 (narrow Every 2 2) (three ∷ two ∷ []) (13 ∷ 3 ∷ []) (replicate 18 7) (replicate 2 7) ≡ encodeOf Field64 (narrow Enough 2 2) (three ∷ two ∷ []) (13 ∷ 3 ∷ []) (replicate 18 7) (replicate 2 7)
+  -- K = 0, and neither is in range: 5 and -5
+  pub none-in-range : encodeOf Field64 (narrow Enough 2 0) (three ∷ two ∷ []) (15 ∷ 0 ∷ []) (replicate 18 7) (replicate 2 7) ≡ encodeOutcome accepted (3 ∷ 2 ∷ 1 ∷ 0 ∷ 1 ∷ 1 ∷ 0 ∷ 1 ∷ 1 ∷ 0 ∷ 0 ∷ 0 ∷ 0 ∷ 0 ∷ 0 ∷ 0 ∷ 0 ∷ 0 ∷ []) (5 ∷ (p64 - 5) ∷ [])
+  pub none-in-range-every : encodeOf Field64 (narrow Every 2 0) (three ∷ two ∷ []) (15 ∷ 0 ∷ []) (replicate 18 7) (replicate 2 7) ≡ encodeOutcome (answer 11 0) (replicate 18 7) (replicate 2 7)
+  -- K = 1, neither in range: 20, 0; the gradient 4 1, with v 17 and the same tests, is refused by 10 first
+  pub none-found : encodeOf Field64 (narrow Enough 2 1) (three ∷ two ∷ []) (15 ∷ 0 ∷ []) (replicate 18 7) (replicate 2 7) ≡ encodeOutcome (answer 20 0) (replicate 18 7) (replicate 2 7)
+  pub long-first : encodeOf Field64 (narrow Enough 2 1) (four ∷ one ∷ []) (15 ∷ 0 ∷ []) (replicate 18 7) (replicate 2 7) ≡ encodeOutcome (answer 10 0) (replicate 18 7) (replicate 2 7)

@@ -1,5 +1,6 @@
--- Rows with the answers of the original Rust, one row for each refusal (that of 10 is in the table of `correctness`), and rows of the calls and multipliers that the Rust does not have, computed from the definitions. Assumes nothing.
+-- Rows with the answers of the original Rust, one row for each refusal (that of 10 is in the table of `correctness`), and rows of the calls, the multipliers and the rule of the tests that the Rust does not have, computed from the definitions. Assumes nothing.
 use mathlib.Core.Path.{_≡_, refl}
+use mathlib.Core.Bool.{false}
 use mathlib.Core.List.{List, [], _∷_}
 use Prim.Native.Nat.{ℕ, _-_}
 use lib.ListN.{replicate}
@@ -7,8 +8,10 @@ use lib.Ieee.{Float, binary64, ofBits}
 use Rattle.field64.specs.Field.{p64, inverseFrom}
 use Rattle.doubles.specs.Doubles.{floorDiv, modP, unusable, floorOf, element}
 use Rattle.pine.specs.declared.PineParam.{PineParam}
+use Rattle.pine.specs.declared.WrTestRule.{WrTestRule}
+use Rattle.pine.specs.declared.WrTestRule.the-variants.{Every, Enough}
 use Rattle.rules.specs.Rules.{answer, accepted}
-use Rattle.pine.specs.Param.{Field64, paramRules, paramAnswer, standard, withAlpha}
+use Rattle.pine.specs.Param.{Field64, paramRules, paramAnswer, standard, withLater, withAlpha}
 use Rattle.pine.specs.Record.{halvings, digits, sqNormBound, sqNormBits, wrTestBound, wrTestBits, bitCheckedLen, encodedInputLen, inputLen}
 use Rattle.field64.specs.Sums.{evaluate}
 use Rattle.rows.specs.Outcome.{Outcome, outcome}
@@ -67,6 +70,28 @@ pub record Rows : Type 0 where
 pub rows : Rows
 unfolding encodeOf encodeRules measurementOf resultsOf coordinatesRule everyRule enoughRule rangeRule countInRange elements sqNorm testBits bits evaluate groups pairs weighed weigh testOf testsOf halvings digits sqNormBound sqNormBits wrTestBound wrTestBits bitCheckedLen encodedInputLen element floorOf floorDiv modP unusable paramAnswer paramRules ofBits validOf validRules validValue validCalls gradientPart checkedPart resultsPart testParts testNumber successBit normV normU termA termN testTerms termW termG chunksTaken inverseFrom inputLen validEqualOf validEqualRules validEqualValue validEqualCalls
 rows = record { six = refl; shares-1 = refl; shares-2 = refl; shares-3 = refl; shares-255 = refl; equal = refl; more-successes = refl; norm-0 = refl; dimension-0 = refl; fraction = refl; chunk = refl; tests = refl; short-stream = refl; short-measurement = refl; short-results = refl; not-a-number = refl; huge-first = refl; huge-second = refl; huge-scaled = refl; short-gradient = refl; second-test = refl; full-length = refl; joint-length = refl; no-share = refl; too-many = refl; joint-element = refl }
+
+-- ---- the two rules of the tests: n 2, d 3 and the multiplier 1 / 2, so that b and w are 2
+abbrev narrow : WrTestRule → (T K : ℕ) → PineParam
+narrow rule T K = withLater 1 2 rule false (standard 2 3 0 1 1 T K)
+
+abbrev ones : List Float
+ones = double 0x3ff0_0000_0000_0000 ∷ double 0x3ff0_0000_0000_0000 ∷ double 0x3ff0_0000_0000_0000 ∷ []
+
+-- of five tests, 3, 0, -3, 1 and 2, the first and the third are out of range
+abbrev five-tests : List ℕ
+five-tests = 63 ∷ 21 ∷ 0 ∷ 53 ∷ 61 ∷ []
+
+record RuleRows : Type 0 where
+  missed : encodeOf Field64 (narrow Enough 5 2) ones five-tests (replicate 24 7) (replicate 5 7)
+      ≡ encodeOutcome accepted (1 ∷ 1 ∷ 1 ∷ 1 ∷ 1 ∷ 0 ∷ 1 ∷ 0 ∷ 0 ∷ 0 ∷ 0 ∷ 0 ∷ 1 ∷ 0 ∷ 1 ∷ 0 ∷ 0 ∷ 0 ∷ 0 ∷ 1 ∷ 1 ∷ 1 ∷ 1 ∷ 0 ∷ []) (3 ∷ 0 ∷ (p64 - 3) ∷ 1 ∷ 2 ∷ [])
+  missed-every : encodeAnswer Field64 (narrow Every 5 2) ones five-tests (replicate 24 7) (replicate 5 7) ≡ answer 11 0
+  just-enough : encodeAnswer Field64 (narrow Enough 5 3) ones five-tests (replicate 24 7) (replicate 5 7) ≡ accepted
+  too-few : encodeAnswer Field64 (narrow Enough 5 4) ones five-tests (replicate 24 7) (replicate 5 7) ≡ answer 20 3
+
+rule-rows : RuleRows
+unfolding encodeOf encodeRules measurementOf resultsOf coordinatesRule everyRule enoughRule rangeRule countInRange elements sqNorm testBits bits evaluate groups pairs weighed weigh testOf testsOf halvings digits sqNormBound sqNormBits wrTestBound wrTestBits bitCheckedLen encodedInputLen element floorOf floorDiv modP unusable paramAnswer paramRules ofBits
+rule-rows = record { missed = refl; missed-every = refl; just-enough = refl; too-few = refl }
 
 -- ---- by fields: in contracts the name `encodeOutcome` stands on both sides, where nothing holds it to its sense
 record Fields : Type 0 where

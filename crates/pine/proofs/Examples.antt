@@ -1,8 +1,10 @@
 -- Worked examples of the multiplier: the bound of the tests and what follows from it, rule 19 and its place among the others, and the standard setting. Assumes nothing.
+use mathlib.Core.Bool.{false}
 use mathlib.Core.Path.{_≡_, refl}
 use Prim.Native.Nat.{ℕ, _^_}
 use Rattle.rules.specs.Rules.{answer, accepted}
 use Rattle.pine.specs.declared.PineParam.{PineParam}
+use Rattle.pine.specs.declared.WrTestRule.the-variants.{Every}
 use Rattle.pine.specs.Param.{Field64, paramRules, paramAnswer, standard, withAlpha}
 use Rattle.pine.specs.Record.{halvings, digits, sqNormBound, sqNormBits, wrTestBound, wrTestExponent, wrTestBits, bitCheckedLen, encodedInputLen, inputLen}
 
@@ -76,5 +78,7 @@ in-order : standard 1 2 3 4 5 6 7
       «num_wr_successes» = 7;
       «alpha_numerator» = 87;
       «alpha_denominator» = 10;
+      «wr_test_rule» = Every;
+      «true_sq_norm» = false;
     }
 in-order = refl

@@ -1,13 +1,14 @@
 -- The inputs and the rules on them: 1 to 6 (document 01, "Rules broken"), then 19 (document 02, g). Assumes nothing.
 use Prim.Native.Nat.{ℕ}
 use mathlib.Core.List.{List, [], _∷_}
-use mathlib.Core.Bool.{false}
+use mathlib.Core.Bool.{Bool, false}
 use lib.Dec.{ltb}
 use Rattle.rules.specs.declared.Answer.{Answer}
 use Rattle.rules.specs.Rules.{refuse, inOrder, outOf}
 use Rattle.field64.specs.Field.{p64}
 use Rattle.doubles.specs.Doubles.{fracBitsRule, floorLimit64}
 use Rattle.pine.specs.declared.PineParam.{PineParam}
+use Rattle.pine.specs.declared.WrTestRule.{WrTestRule}
 use Rattle.pine.specs.declared.WrTestRule.the-variants.{Every}
 
 -- what the calls need to know of a field: its modulus, how far from 0 the floor of a coordinate may lie, and the largest norm bound that is allowed over it
@@ -35,9 +36,9 @@ standard n d f c e T K = record {
   «true_sq_norm» = false;
 }
 
--- the same inputs with the multiplier num / den
-abbrev pub withAlpha : (num den : ℕ) → PineParam → PineParam
-withAlpha num den i = record {
+-- the same inputs with these later ones: the multiplier num / den, the rule of the tests, the switch
+abbrev pub withLater : (num den : ℕ) (rule : WrTestRule) (on : Bool) → PineParam → PineParam
+withLater num den rule on i = record {
   «norm_bound» = i .«norm_bound»;
   dimension = i .dimension;
   «frac_bits» = i .«frac_bits»;
@@ -47,7 +48,13 @@ withAlpha num den i = record {
   «num_wr_successes» = i .«num_wr_successes»;
   «alpha_numerator» = num;
   «alpha_denominator» = den;
+  «wr_test_rule» = rule;
+  «true_sq_norm» = on;
 }
+
+-- the same with the multiplier alone
+abbrev pub withAlpha : (num den : ℕ) → PineParam → PineParam
+withAlpha num den i = withLater num den (i .«wr_test_rule») (i .«true_sq_norm») i
 
 -- one chunk length
 abbrev pub chunkRule : ℕ → Answer

@@ -14,7 +14,7 @@ use Rattle.field64.specs.Sums.{evaluate}
 use Rattle.doubles.specs.Doubles.{floorDiv, modP, unusable, floorOf, element, centred, decoded}
 use Rattle.pine.specs.declared.PineParam.{PineParam}
 use Rattle.pine.specs.declared.WrTestRule.the-variants.{Every}
-use Rattle.pine.specs.Param.{Field64, paramRules, paramAnswer}
+use Rattle.pine.specs.Param.{Field64, paramRules, paramAnswer, standard, withLater}
 use Rattle.pine.specs.Record.{halvings, digits, sqNormBound, sqNormBits, wrTestBound, wrTestBits, bitCheckedLen, encodedInputLen}
 use Rattle.rows.specs.Rows.{addRows, subRows, elementsRule}
 use Rattle.rows.proofs.Elements.{elements-below}
@@ -34,7 +34,7 @@ use Rattle.sensitivity.proofs.Length.{true-lengths-64}
 
 -- n 5, so B 25; d 2, f 1, one test; the switch is on
 abbrev inputs : PineParam
-inputs = record { «norm_bound» = 5; dimension = 2; «frac_bits» = 1; «chunk_len» = 1; «chunk_len_sq_norm_equal» = 1; «num_wr_tests» = 1; «num_wr_successes» = 1; «alpha_numerator» = 87; «alpha_denominator» = 10; «wr_test_rule» = Every; «true_sq_norm» = true }
+inputs = withLater 87 10 Every true (standard 5 2 1 1 1 1 1)
 
 -- elements x and y; v and u; 63 in seven bits, the result being 0, and the success bit
 abbrev with-v : (x y : ℕ) (v u : List ℕ) → List ℕ
