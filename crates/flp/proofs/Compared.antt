@@ -162,5 +162,5 @@ record Multiplied : Type 0 where
   other-number : validOf Field64 (multiplied 1 1 1) 1 (1 ∷ 0 ∷ 0 ∷ 0 ∷ 1 ∷ 0 ∷ 1 ∷ 0 ∷ 1 ∷ 0 ∷ 0 ∷ 1 ∷ 1 ∷ (p64 - 1) ∷ []) (5 ∷ 7 ∷ 11 ∷ []) ≡ record { answer = accepted; value = 121; «gadget_calls» = 10 }
 
 multiplied-rows : Multiplied
-unfolding encodeOf encodeRules measurementOf resultsOf coordinatesRule rangeRule elements sqNorm testBits bits evaluate groups pairs weighed weigh testOf testsOf halvings digits sqNormBound sqNormBits wrTestBound wrTestBits bitCheckedLen encodedInputLen element floorOf floorDiv modP unusable paramAnswer paramRules ofBits validOf validRules validValue validCalls gradientPart checkedPart resultsPart testParts testNumber successBit normV normU termA termN testTerms termW termG chunksTaken inverseFrom inputLen validEqualOf validEqualRules validEqualValue validEqualCalls runTestsOf runTestsRules gradientPartOf checkedPartOf resultsPartOf partOf partRules
+unfolding encodeOf encodeRules measurementOf resultsOf coordinatesRule everyRule enoughRule rangeRule countInRange elements sqNorm testBits bits evaluate groups pairs weighed weigh testOf testsOf halvings digits sqNormBound sqNormBits wrTestBound wrTestBits bitCheckedLen encodedInputLen element floorOf floorDiv modP unusable paramAnswer paramRules ofBits validOf validRules validValue validCalls gradientPart checkedPart resultsPart testParts testNumber successBit normV normU termA termN testTerms termW termG chunksTaken inverseFrom inputLen validEqualOf validEqualRules validEqualValue validEqualCalls runTestsOf runTestsRules gradientPartOf checkedPartOf resultsPartOf partOf partRules
 multiplied-rows = record { encode = refl; alone = refl; circuit = refl; circuit-equal = refl; part = refl; tight = refl; looser = refl; loose = refl; report = refl; other-number = refl }
