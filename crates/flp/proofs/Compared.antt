@@ -1,6 +1,6 @@
 -- Rows with the answers of the original Rust, one row for each refusal (that of 10 is in the table of `correctness`), and rows of the calls, the multipliers and the rule of the tests that the Rust does not have, computed from the definitions. Assumes nothing.
 use mathlib.Core.Path.{_≡_, refl}
-use mathlib.Core.Bool.{false}
+use mathlib.Core.Bool.{true, false}
 use mathlib.Core.List.{List, [], _∷_}
 use Prim.Native.Nat.{ℕ, _-_}
 use lib.ListN.{replicate}
@@ -17,7 +17,7 @@ use Rattle.field64.specs.Sums.{evaluate}
 use Rattle.rows.specs.Outcome.{Outcome, outcome}
 use Rattle.flp.specs.Bits.{bits, groups}
 use Rattle.flp.specs.Tests.{pairs, weighed, weigh, testOf, testsOf, runTestsRules, runTestsOf}
-use Rattle.flp.specs.Encode.{elements, sqNorm, testBits, resultsOf, measurementOf, coordinatesRule, everyRule, enoughRule, rangeRule, countInRange, encodeOutcome, encodeRules, encodeAnswer, encodeOf}
+use Rattle.flp.specs.Encode.{elements, sqNorm, trueSqNorm, testBits, resultsOf, measurementOf, coordinatesRule, everyRule, enoughRule, rangeRule, countInRange, encodeOutcome, encodeRules, encodeAnswer, encodeOf}
 use Rattle.flp.specs.Circuits.{gradientPart, checkedPart, resultsPart, testParts, testNumber, successBit, normV, normU, termA, termN, testTerms, termW, termG, chunksTaken, validRules, validValue, validCalls, validOf, validEqualRules, validEqualValue, validEqualCalls, validEqualOf, partRules, partOf, gradientPartOf, checkedPartOf, resultsPartOf}
 
 abbrev double : ℕ → Float
@@ -92,6 +92,37 @@ record RuleRows : Type 0 where
 rule-rows : RuleRows
 unfolding encodeOf encodeRules measurementOf resultsOf coordinatesRule everyRule enoughRule rangeRule countInRange elements sqNorm testBits bits evaluate groups pairs weighed weigh testOf testsOf halvings digits sqNormBound sqNormBits wrTestBound wrTestBits bitCheckedLen encodedInputLen element floorOf floorDiv modP unusable paramAnswer paramRules ofBits
 rule-rows = record { missed = refl; missed-every = refl; just-enough = refl; too-few = refl }
+
+-- ---- the true squared norm, with the switch on: the original has no such rule
+abbrev switched : (n d T K : ℕ) → PineParam
+switched n d T K = withLater 87 10 Every true (standard n d 0 1 1 T K)
+
+-- 1.0, -0.25 and 0.0: the floors 1, -1 and 0
+abbrev one : Float
+one = double 0x3ff0_0000_0000_0000
+
+abbrev minus-quarter : Float
+minus-quarter = double 0xbfd0_0000_0000_0000
+
+abbrev none : Float
+none = double 0
+
+record TrueRows : Type 0 where
+  -- 4294967296.0 at n 65536: 2 ^ 64 is above B, and 4294967295 modulo p is not
+  wraps : encodeAnswer Field64 (switched 65536 1 1 1) (double 0x41f0_0000_0000_0000 ∷ []) (1 ∷ []) (replicate 89 7) (replicate 1 7) ≡ answer 21 0
+  wraps-off : encodeAnswer Field64 (standard 65536 1 0 1 1 1 1) (double 0x41f0_0000_0000_0000 ∷ []) (1 ∷ []) (replicate 89 7) (replicate 1 7) ≡ accepted
+  -- n 1: the squares 1 and 1 and 1 are above 1, before 10; one alone, of a negative floor, is within it
+  both : encodeAnswer Field64 (switched 1 4 2 2) (one ∷ minus-quarter ∷ none ∷ one ∷ []) (3 ∷ 0 ∷ []) (replicate 18 7) (replicate 2 7) ≡ answer 21 0
+  both-off : encodeAnswer Field64 (standard 1 4 0 1 1 2 2) (one ∷ minus-quarter ∷ none ∷ one ∷ []) (3 ∷ 0 ∷ []) (replicate 18 7) (replicate 2 7) ≡ answer 10 0
+  within : encodeAnswer Field64 (switched 1 4 2 2) (none ∷ minus-quarter ∷ none ∷ none ∷ []) (3 ∷ 0 ∷ []) (replicate 18 7) (replicate 2 7) ≡ accepted
+  -- a gradient too long is 9 first
+  longer : encodeAnswer Field64 (switched 1 4 2 2) (one ∷ one ∷ one ∷ one ∷ one ∷ []) (3 ∷ 0 ∷ []) (replicate 18 7) (replicate 2 7) ≡ answer 9 0
+  -- the largest floor and the smallest, of more than 64 digits
+  largest : trueSqNorm 0 (double 0x43df_ffff_ffe0_0000 ∷ double 0xc3df_ffff_ffe0_0000 ∷ []) ≡ 170141183381241069226646338159194931200
+
+true-rows : TrueRows
+unfolding encodeOf encodeRules measurementOf resultsOf coordinatesRule everyRule enoughRule rangeRule countInRange elements sqNorm testBits bits evaluate groups pairs weighed weigh testOf testsOf halvings digits sqNormBound sqNormBits wrTestBound wrTestBits bitCheckedLen encodedInputLen element floorOf floorDiv modP unusable paramAnswer paramRules ofBits trueSqNorm
+true-rows = record { wraps = refl; wraps-off = refl; both = refl; both-off = refl; within = refl; longer = refl; largest = refl }
 
 -- ---- by fields: in contracts the name `encodeOutcome` stands on both sides, where nothing holds it to its sense
 record Fields : Type 0 where
