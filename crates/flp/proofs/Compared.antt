@@ -172,10 +172,6 @@ lent = record {
 abbrev multiplied : (n num den : ℕ) → PineParam
 multiplied n num den = withAlpha num den (standard n 4 0 1 1 2 2)
 
--- 1.0
-abbrev one : Float
-one = double 0x3ff0_0000_0000_0000
-
 record Multiplied : Type 0 where
   -- 19 comes before 7, which each of these breaks too
   encode : encodeAnswer Field64 (multiplied 1 0 1) [] [] [] [] ≡ answer 19 0
