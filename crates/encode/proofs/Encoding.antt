@@ -1,4 +1,4 @@
--- The cases of encoding: refused by rules 1 to 9, 17 or 19, or by 10 or 11, or accepted. Assumes nothing.
+-- The cases of encoding: refused by a rule up to 9, or by a later one, or accepted. Assumes nothing.
 use mathlib.Core.Path.{_≡_, refl, sym, ap, _∙_}
 use mathlib.Core.Bool.{Bool, true, false, cond}
 use mathlib.Core.List.{List, [], _∷_, _++_}

@@ -27,7 +27,7 @@ bound-fits : (i : PineParam) (v : ℕ) → v ≤ sqNormBound i → v < 2 ^ sqNor
 unfolding sqNormBits
 bound-fits i v h = lt-of-le-of-lt h (digits-above (sqNormBound i))
 
--- what the rules on the inputs, 8 to 11 and 17 leave of an encoding, its elements being xs
+-- what the rules leave of an encoding, its elements being xs
 pub record Sound (p : ℕ) (i : PineParam) (stream xs : List ℕ) : Type 0 where
   pub big : 1 < p
   pub room-norm : sqNormBound i < p
