@@ -6,18 +6,10 @@ use rules::Answer;
 
 // The inputs of report.rt, with the multiplier 1/2 in place of 87/10.
 pub fn param() -> PineParam {
-    let usual = report::param();
-    PineParam {
-        norm_bound: usual.norm_bound,
-        dimension: usual.dimension,
-        frac_bits: usual.frac_bits,
-        chunk_len: usual.chunk_len,
-        chunk_len_sq_norm_equal: usual.chunk_len_sq_norm_equal,
-        num_wr_tests: usual.num_wr_tests,
-        num_wr_successes: usual.num_wr_successes,
-        alpha_numerator: 1,
-        alpha_denominator: 2,
-    }
+    let mut param = report::param();
+    param.alpha_numerator = 1;
+    param.alpha_denominator = 2;
+    param
 }
 
 // 9. A smaller bound makes a shorter measurement. It also refuses more reports, whose tests have results
