@@ -9,9 +9,9 @@
  * elements, in that order. Derive the lengths by pine_derive.
  *
  * Answers. number 0 and place 0: accepted. Otherwise number is the first rule broken, in the order 1 to 6, 19,
- * 7, 13, 12, 8 with 17, 9, 10, 11, and place is where (enum PineRule). A refused call leaves every row as it
- * was. An accepted call writes every element of its output rows and reads none of what they held before
- * (of an aggregate that is added to or taken from: argument and result).
+ * 7, 13, 12, 8 with 17, 9, 10, 11 or 20 in its place, and place is where (enum PineRule). A refused call
+ * leaves every row as it was. An accepted call writes every element of its output rows and reads none of what
+ * they held before (of an aggregate that is added to or taken from: argument and result).
  *
  * What the caller owes, which no proof can see:
  * - A pointer is valid for its length, and aligned for its type (8 bytes, 1 for the stream). Give an
@@ -21,7 +21,7 @@
  * - Every element of a row that is read has been written once. Output rows may be uninitialised.
  * - The floating-point environment is C's default: round to nearest, exceptions masked, subnormals kept
  *   (neither flush-to-zero nor denormals-are-zero, which gcc's -ffast-math turns on in main programs).
- * - The stack has room: docs/C.md has the measured need of each call, at most 4792 bytes.
+ * - The stack has room: docs/C.md has the measured need of each call, at most 7216 bytes.
  *
  * No call keeps state, allocates, locks, does input or output, or fails otherwise than by its answer:
  * any number of threads may call at once. Nothing depends on a NaN's payload or sign: a NaN is refused,
@@ -57,22 +57,25 @@ extern "C" {
 /* What number says, and place beside it. */
 enum PineRule {
     PINE_ACCEPTED = 0,
-    PINE_NUM_WR_SUCCESSES = 1, /* above num_wr_tests; place 0 */
-    PINE_NORM_BOUND = 2,       /* 0 or above its limit; place 0 */
-    PINE_DIMENSION = 3,        /* 0 or above its limit; place 0 */
-    PINE_FRAC_BITS = 4,        /* above its limit; place 0 */
-    PINE_CHUNK_LEN = 5,        /* either chunk length is 0 or above its limit; place 0 */
-    PINE_NUM_WR_TESTS = 6,     /* 0 or above its limit; place 0 */
-    PINE_ROW_LEN = 7,          /* a row's length is other than derived; place: the row, from 1 */
-    PINE_COORDINATE = 8,       /* NaN, infinite or subnormal; place: its index in the gradient */
-    PINE_GRADIENT_LEN = 9,     /* the gradient's length is not the dimension; place 0 */
-    PINE_SQ_NORM = 10,         /* the squared norm, a field number, is above norm_bound^2; place 0 */
-    PINE_WR_TEST = 11,         /* a wraparound test's result is out of range; place: the test, from 0 */
-    PINE_ELEMENT = 12,         /* not below p; place: its index over the rows read, joined in order */
-    PINE_NUM_SHARES = 13,      /* 0 or above its limit; place 0 */
-    PINE_FLOOR = 17,           /* a coordinate's floor is below -(p - 1) / 2 or above (p - 1) / 2; place: its
-                                * index in the gradient. Of 8 and 17 the lower index is answered */
-    PINE_ALPHA = 19            /* alpha_numerator or alpha_denominator is 0; place 0 */
+    PINE_NUM_WR_SUCCESSES = 1,   /* above num_wr_tests; place 0 */
+    PINE_NORM_BOUND = 2,         /* 0 or above its limit; place 0 */
+    PINE_DIMENSION = 3,          /* 0 or above its limit; place 0 */
+    PINE_FRAC_BITS = 4,          /* above its limit; place 0 */
+    PINE_CHUNK_LEN = 5,          /* either chunk length is 0 or above its limit; place 0 */
+    PINE_NUM_WR_TESTS = 6,       /* 0 or above its limit; place 0 */
+    PINE_ROW_LEN = 7,            /* a row's length is other than derived; place: the row, from 1 */
+    PINE_COORDINATE = 8,         /* NaN, infinite or subnormal; place: its index in the gradient */
+    PINE_GRADIENT_LEN = 9,       /* the gradient's length is not the dimension; place 0 */
+    PINE_SQ_NORM = 10,           /* the squared norm, a field number, is above norm_bound^2; place 0 */
+    PINE_WR_TEST = 11,           /* by PINE_EVERY_TEST, a wraparound test's result is out of range; place: the
+                                  * test, from 0 */
+    PINE_ELEMENT = 12,           /* not below p; place: its index over the rows read, joined in order */
+    PINE_NUM_SHARES = 13,        /* 0 or above its limit; place 0 */
+    PINE_FLOOR = 17,             /* a coordinate's floor is below -(p - 1) / 2 or above (p - 1) / 2; place: its
+                                  * index in the gradient. Of 8 and 17 the lower index is answered */
+    PINE_ALPHA = 19,             /* alpha_numerator or alpha_denominator is 0; place 0 */
+    PINE_WR_TESTS_IN_RANGE = 20  /* by PINE_ENOUGH_TESTS, fewer than num_wr_successes tests are in range; place:
+                                  * how many are */
 };
 
 /* The first rule broken and its place, or 0 and 0. */
@@ -81,13 +84,25 @@ typedef struct PineAnswer {
     uint64_t place;
 } PineAnswer;
 
-/* The inputs: n, d, f, c, e, T and K of the papers, and alpha as a fraction. The bound b of the wraparound
- * tests is the smallest power of two not below ceil(alpha * norm_bound) + 1. Begin from pine_param_standard.
+/* What wr_test_rule says: which of the wraparound tests must be in range for a gradient to be encoded. */
+enum PineWrTestRule {
+    PINE_EVERY_TEST = 0,  /* all of them, as in the original */
+    PINE_ENOUGH_TESTS = 1 /* at least num_wr_successes; any byte but 0 says so */
+};
+
+/* The inputs: n, d, f, c, e, T and K of the papers; alpha as a fraction; the rule of the wraparound tests; the
+ * switch for the true squared norm. The bound b of the tests is the smallest power of two not below
+ * ceil(alpha * norm_bound) + 1. Begin from pine_param_standard.
  *
  * What another alpha changes. A result from -b + 1 to b is in range, so a smaller b refuses more streams by
  * rule 11, and a larger one lets more gradients pass whose squared norm has wrapped around p; how many, no
  * proof here says. Each time b doubles, wr_test_bits is one more, and a measurement has num_wr_tests elements
- * more. Client and servers must use the same alpha, as they must the other inputs. */
+ * more. Client and servers must use the same alpha, as they must the first seven inputs.
+ *
+ * What PINE_ENOUGH_TESTS changes. A client is no longer refused for a test that misses by chance: it is written
+ * as zeros, and does not count. In return up to num_wr_tests - num_wr_successes tests of an accepted report may
+ * have missed; the circuits show, as by the other rule, that num_wr_successes succeeded. No other call and no
+ * length depends on the rule, and servers need not know it. */
 typedef struct PineParam {
     uint64_t norm_bound;
     uint64_t dimension;
@@ -98,14 +113,18 @@ typedef struct PineParam {
     uint64_t num_wr_successes;
     uint16_t alpha_numerator;
     uint16_t alpha_denominator;
+    uint8_t wr_test_rule; /* enum PineWrTestRule */
+    uint8_t true_sq_norm; /* 0: off; any other byte: on */
 } PineParam;
 
-/* The inputs with the original's alpha, 87 / 10. With it the calls equal the original, which has no other. */
+/* The inputs with which the calls equal the original, which has no others: alpha is 87 / 10, every test must be
+ * in range, the switch is off. */
 static inline PineParam pine_param_standard(uint64_t norm_bound, uint64_t dimension, uint64_t frac_bits,
                                             uint64_t chunk_len, uint64_t chunk_len_sq_norm_equal,
                                             uint64_t num_wr_tests, uint64_t num_wr_successes) {
     PineParam param = {norm_bound,   dimension,        frac_bits, chunk_len, chunk_len_sq_norm_equal,
-                       num_wr_tests, num_wr_successes, 87,        10};
+                       num_wr_tests, num_wr_successes, 87,        10,        PINE_EVERY_TEST,
+                       /* true_sq_norm */ 0};
     return param;
 }
 
@@ -199,7 +218,7 @@ PineDecoded pine_field_to_f64(uint64_t y, uint64_t frac_bits);
 
 /* Encodes a gradient of doubles (row 1, length d), with a stream of random bytes (row 2, stream_len),
  * into the measurement (row 3, encoded_input_len; written) and the results of the wraparound tests
- * (row 4, num_wr_tests; written). Rules 1 to 6, 19, 7 (rows 2 to 4), 8 and 17, 9, 10, 11. */
+ * (row 4, num_wr_tests; written). Rules 1 to 6, 19, 7 (rows 2 to 4), 8 and 17, 9, 10, 11 or 20. */
 PineAnswer pine_encode_with_wr_joint_rand(PineParam param,
                                           const double *gradient, size_t gradient_len,
                                           const uint8_t *stream, size_t stream_len,
@@ -279,6 +298,10 @@ PINE_ASSERT(sizeof(size_t) == 8);
 PINE_ASSERT(sizeof(double) == 8);
 PINE_ASSERT(sizeof(PineAnswer) == 16);
 PINE_ASSERT(sizeof(PineParam) == 64);
+PINE_ASSERT(offsetof(PineParam, alpha_numerator) == 56);
+PINE_ASSERT(offsetof(PineParam, alpha_denominator) == 58);
+PINE_ASSERT(offsetof(PineParam, wr_test_rule) == 60);
+PINE_ASSERT(offsetof(PineParam, true_sq_norm) == 61);
 PINE_ASSERT(sizeof(PineRecord) == 128);
 PINE_ASSERT(sizeof(PineLengths) == 48);
 PINE_ASSERT(sizeof(PineDerived) == 248);

@@ -38,6 +38,7 @@ static const char *const rules[] = {
     "a coordinate's floor is out of the field's limits",
     "",
     "alpha_numerator or alpha_denominator is 0",
+    "too few wraparound tests are in range",
 };
 
 static void must(PineAnswer answer, const char *call) {
@@ -130,7 +131,8 @@ int main(void) {
             param, gradients[report], DIMENSION, stream, stream_len, full, encoded_len,
             full + encoded_len, tests);
         if (answer.number == PINE_WR_TEST) {
-            /* rare: these tests wrap around with this stream; another stream may do */
+            /* rare: a test misses with this stream; another stream may do. Clients who let a test miss set
+             * num_wr_successes below num_wr_tests and param.wr_test_rule to PINE_ENOUGH_TESTS */
             report--;
             continue;
         }

@@ -139,8 +139,11 @@ fn chunks(d: usize, t: usize) -> [(usize, usize); 2] {
 /// The multiplier of the original.
 const ALPHA: [u16; 2] = [87, 10];
 
+/// Its rule of the tests, every one in range, and the switch for the true squared norm off.
+const ORIGINAL: [u8; 2] = [0, 0];
+
 fn param(d: usize, (c, e): (usize, usize), t: usize) -> Param {
-    Param([NORM_BOUND, d as u64, FRAC_BITS, c as u64, e as u64, t as u64, t as u64], ALPHA)
+    Param([NORM_BOUND, d as u64, FRAC_BITS, c as u64, e as u64, t as u64, t as u64], ALPHA, ORIGINAL)
 }
 
 fn title(name: &str, d: usize, of: &'static str, bytes: usize) -> Title {
@@ -603,7 +606,7 @@ fn field_to_f64() -> Row {
 fn any_param(random: &mut Random) -> Param {
     let mut up_to = |limit: u64| 1 + random.next() % limit;
     let (n, d, f, c, e, t) = (up_to(3_037_000_499), up_to(65536), up_to(30), up_to(65536), up_to(65536), up_to(256));
-    Param([n, d, f, c, e, t, up_to(t)], ALPHA)
+    Param([n, d, f, c, e, t, up_to(t)], ALPHA, ORIGINAL)
 }
 
 fn derive() -> Row {

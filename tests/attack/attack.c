@@ -6,8 +6,9 @@
  * other, with a margin of known bytes on its open side. Checked of each call: it returns; it touches
  * nothing outside its rows; a refused call leaves every row as it was, and its values are 0; an accepted
  * one leaves the rows that it only reads; made again with other bytes in the rows that it writes, it
- * gives the same answer and the same rows; elements given are below p, doubles are no NaN. Every report
- * that is encoded is also cut in two and taken through all the other calls.
+ * gives the same answer and the same rows; elements given are below p, doubles are no NaN; a report's tests are
+ * written by the rule that the inputs name. Every report that is encoded is also cut in two and taken through all
+ * the other calls.
  *
  * With -DMEMCHECK, under valgrind, the rows that are written are handed over as uninitialised, and what
  * comes back must be initialised throughout. */
@@ -48,8 +49,10 @@ static const char *const names[KINDS] = {
     "valid_sq_norm_equal", "gradient_part", "checked_part", "results_part", "empty_aggregate", "accumulate", "merge",
     "subtract", "unmerge", "unshard"
 };
-enum { LAST_RULE = PINE_ALPHA };
-static int is_rule(uint64_t n) { return n <= PINE_NUM_SHARES || n == PINE_FLOOR || n == PINE_ALPHA; }
+enum { LAST_RULE = PINE_WR_TESTS_IN_RANGE };
+static int is_rule(uint64_t n) {
+    return n <= PINE_NUM_SHARES || n == PINE_FLOOR || (PINE_ALPHA <= n && n <= LAST_RULE);
+}
 static unsigned long long seed, made, counts[KINDS][LAST_RULE + 1], reports;
 static volatile enum Kind kind;
 
@@ -113,6 +116,9 @@ static uint16_t alpha_number(void) {
     return (uint16_t)(once_in(3) ? 1 + below(8) : once_in(3) ? UINT16_MAX - below(2) : 1 + below(UINT16_MAX));
 }
 
+/* a rule or a switch: 0, 1 or another */
+static uint8_t any_byte(void) { return (uint8_t)below(once_in(2) ? 2 : 256); }
+
 static PineParam param_in_order(void) {
     PineParam p;
     p.norm_bound = once_in(3) ? 1 + below(8) : once_in(3) ? 1 + below(PINE_MAX_NORM_BOUND) : UINT64_C(1) << below(31);
@@ -125,6 +131,8 @@ static PineParam param_in_order(void) {
     int standard = once_in(2);
     p.alpha_numerator = standard ? 87 : alpha_number();
     p.alpha_denominator = standard ? 10 : alpha_number();
+    p.wr_test_rule = any_byte();
+    p.true_sq_norm = 0;
     return p;
 }
 
@@ -356,6 +364,34 @@ static unsigned char *given[ROWS];
 static uint64_t add(uint64_t a, uint64_t b) { return a >= P - b ? a - (P - b) : a + b; }
 static uint64_t sub(uint64_t a, uint64_t b) { return a >= b ? a - b : a + (P - b); }
 
+/* By the rule of the tests: whether enough are in range; and how each is written, one out of range as zeros. */
+static void tests_written(PineParam p, const PineRecord *v, PineAnswer a, const uint64_t *m, const uint64_t *r) {
+    if ((a.number == PINE_WR_TEST && p.wr_test_rule != PINE_EVERY_TEST) ||
+        (a.number == PINE_WR_TESTS_IN_RANGE && (p.wr_test_rule == PINE_EVERY_TEST || a.place >= p.num_wr_successes))) {
+        fail("refuses by another rule of the tests");
+    }
+    if (a.number != 0) {
+        return;
+    }
+    uint64_t b = pine_wr_test_bound(*v), w = v->wr_test_bits, in_range = 0;
+    m += v->dimension + 2 * v->sq_norm_bits;
+    for (uint64_t t = 0; t < p.num_wr_tests; t++, m += w + 1) {
+        uint64_t number = add(r[t], b - 1), yes = number < 2 * b;
+        for (uint64_t k = 0; k < w; k++) {
+            if (m[k] != (yes ? number >> k & 1 : 0)) {
+                fail("gives other bits of a test");
+            }
+        }
+        if (m[w] != (yes && in_range < p.num_wr_successes)) {
+            fail("gives another success bit");
+        }
+        in_range += yes;
+    }
+    if (in_range < (p.wr_test_rule == PINE_EVERY_TEST ? p.num_wr_tests : p.num_wr_successes)) {
+        fail("accepts too few tests in range");
+    }
+}
+
 static void report(PineParam p, const PineDerived *v) {
     size_t d = (size_t)p.dimension, encoded = (size_t)v->pine.encoded_input_len, full = (size_t)v->pine.input_len;
     size_t tests = (size_t)p.num_wr_tests, stream = (size_t)v->stream_len;
@@ -370,6 +406,7 @@ static void report(PineParam p, const PineDerived *v) {
     uint64_t *m = (uint64_t *)place(2, encoded, 8), *r = (uint64_t *)place(3, tests, 8);
     kind = ENCODE;
     TWICE(4, 12, pine_encode_with_wr_joint_rand(p, gradient, d, s, stream, m, encoded, r, tests));
+    tests_written(p, &v->pine, a, m, r);
     if (a.number != 0) {
         goto done;
     }
@@ -519,6 +556,7 @@ static void step(void) {
         uint8_t *s = (uint8_t *)pointer(bytes(1, n[1]), n[1]);
         uint64_t *m = (uint64_t *)pointer(place(2, n[2], 8), n[2]), *r = (uint64_t *)pointer(place(3, n[3], 8), n[3]);
         TWICE(4, 12, pine_encode_with_wr_joint_rand(p, g, n[0], s, n[1], m, n[2], r, n[3]));
+        tests_written(p, &v.pine, a, m, r);
         if (a.number == 0) {
             all_elements(m, n[2]);
             all_elements(r, n[3]);

@@ -14,6 +14,10 @@ PineAnswer __real_pine_check_param(PineParam p);
 PineAnswer __wrap_pine_check_param(PineParam p);
 PineDerived __real_pine_derive(PineParam p);
 PineDerived __wrap_pine_derive(PineParam p);
+PineAnswer __real_pine_encode_with_wr_joint_rand(PineParam p, const double *g, size_t gn, const uint8_t *s, size_t sn,
+                                                 uint64_t *m, size_t mn, uint64_t *r, size_t rn);
+PineAnswer __wrap_pine_encode_with_wr_joint_rand(PineParam p, const double *g, size_t gn, const uint8_t *s, size_t sn,
+                                                 uint64_t *m, size_t mn, uint64_t *r, size_t rn);
 
 /* 1: reads past a row; 2: reads before a row; 3: decodes what the row held before */
 PineAnswer __wrap_pine_unshard(PineParam p, const uint64_t *l, size_t ln, const uint64_t *r, size_t rn, double *o, size_t on) {
@@ -80,4 +84,18 @@ PineDerived __wrap_pine_derive(PineParam p) {
         v = __real_pine_derive(p);
     }
     return v;
+}
+
+/* 12: reads every rule of the tests but 1 as 0; 13: gives the last test the success bit of the first */
+PineAnswer __wrap_pine_encode_with_wr_joint_rand(PineParam p, const double *g, size_t gn, const uint8_t *s, size_t sn,
+                                                 uint64_t *m, size_t mn, uint64_t *r, size_t rn) {
+    if (FAULT == 12) {
+        p.wr_test_rule = p.wr_test_rule == 1;
+    }
+    PineAnswer a = __real_pine_encode_with_wr_joint_rand(p, g, gn, s, sn, m, mn, r, rn);
+    if (FAULT == 13 && a.number == 0) {
+        PineRecord v = __real_pine_derive(p).pine;
+        m[mn - 1] = m[v.dimension + 2 * v.sq_norm_bits + v.wr_test_bits];
+    }
+    return a;
 }

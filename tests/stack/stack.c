@@ -102,9 +102,10 @@ int main(void) {
     static const uint64_t numbers_of_tests[] = {1, 2, 9, 100, 256};
     for (size_t k = 0; k < sizeof dimensions / sizeof *dimensions; k++) {
         for (size_t l = 0; l < sizeof numbers_of_tests / sizeof *numbers_of_tests; l++) {
-            for (int wrong = 0; wrong < 4; wrong++) {
+            for (int wrong = 0; wrong < 5; wrong++) {
                 uint64_t t = numbers_of_tests[l];
                 param = pine_param_standard(1u << 16, dimensions[k], 8, 1 + k, 7, t, t);
+                param.wr_test_rule = wrong == 4 ? PINE_ENOUGH_TESTS : PINE_EVERY_TEST;
                 derived = pine_derive(param);
                 if (derived.answer.number != 0) {
                     continue;

@@ -36,7 +36,8 @@ pub enum Rule {
     GradientLen = 9,
     /// The squared norm, as a field number, is above its bound.
     SqNorm = 10,
-    /// A wraparound test's result is out of range. The place is the test, from 0.
+    /// By [`WrTestRule::Every`](crate::WrTestRule::Every), a wraparound test's result is out of range. The place
+    /// is the test, from 0.
     WrTest = 11,
     /// An element is not below p. The place is its index over the rows that are read, joined in order.
     Element = 12,
@@ -47,6 +48,9 @@ pub enum Rule {
     Floor = 17,
     /// alpha_numerator or alpha_denominator is 0.
     Alpha = 19,
+    /// By [`WrTestRule::Enough`](crate::WrTestRule::Enough), fewer than num_wr_successes tests are in range. The
+    /// place is how many are.
+    WrTestsInRange = 20,
 }
 
 impl Rule {
@@ -76,6 +80,7 @@ impl Error {
             13 => Rule::NumShares,
             17 => Rule::Floor,
             19 => Rule::Alpha,
+            20 => Rule::WrTestsInRange,
             // no call of the archive that this crate was written for answers another number
             _ => unreachable!("rule {number}: the archive is of another version"),
         };
@@ -102,6 +107,7 @@ impl fmt::Display for Error {
             Rule::NumShares => write!(f, "num_shares is not from 1 to 255"),
             Rule::Floor => write!(f, "the floor of coordinate {place} is beyond (p - 1) / 2"),
             Rule::Alpha => write!(f, "alpha_numerator or alpha_denominator is 0"),
+            Rule::WrTestsInRange => write!(f, "only {place} wraparound tests are in range"),
         }?;
         write!(f, " (rule {})", self.rule.number())
     }

@@ -1,5 +1,51 @@
 //! The calls as include/pine.h declares them.
-use crate::{Lengths, Pine, PineParam};
+use crate::{Lengths, Pine, PineParam, WrTestRule};
+use core::mem::{offset_of, size_of};
+
+/// `PineParam` of the header.
+#[repr(C)]
+pub struct Inputs {
+    norm_bound: u64,
+    dimension: u64,
+    frac_bits: u64,
+    chunk_len: u64,
+    chunk_len_sq_norm_equal: u64,
+    num_wr_tests: u64,
+    num_wr_successes: u64,
+    alpha_numerator: u16,
+    alpha_denominator: u16,
+    wr_test_rule: u8,
+    true_sq_norm: u8,
+}
+
+const _: () = assert!(
+    size_of::<Inputs>() == 64
+        && offset_of!(Inputs, alpha_numerator) == 56
+        && offset_of!(Inputs, alpha_denominator) == 58
+        && offset_of!(Inputs, wr_test_rule) == 60
+        && offset_of!(Inputs, true_sq_norm) == 61
+);
+
+impl From<PineParam> for Inputs {
+    fn from(param: PineParam) -> Inputs {
+        Inputs {
+            norm_bound: param.norm_bound,
+            dimension: param.dimension,
+            frac_bits: param.frac_bits,
+            chunk_len: param.chunk_len,
+            chunk_len_sq_norm_equal: param.chunk_len_sq_norm_equal,
+            num_wr_tests: param.num_wr_tests,
+            num_wr_successes: param.num_wr_successes,
+            alpha_numerator: param.alpha_numerator,
+            alpha_denominator: param.alpha_denominator,
+            wr_test_rule: match param.wr_test_rule {
+                WrTestRule::Every => 0,
+                WrTestRule::Enough => 1,
+            },
+            true_sq_norm: param.true_sq_norm.into(),
+        }
+    }
+}
 
 #[repr(C)]
 pub struct Answer {
@@ -43,13 +89,13 @@ pub struct Part {
 }
 
 extern "C" {
-    pub fn pine_check_param(param: PineParam) -> Answer;
-    pub fn pine_derive(param: PineParam) -> Derived;
+    pub fn pine_check_param(param: Inputs) -> Answer;
+    pub fn pine_derive(param: Inputs) -> Derived;
     pub fn pine_wr_test_bound(pine: Pine) -> u64;
     pub fn pine_f64_to_field(x: f64, frac_bits: u64) -> Coordinate;
     pub fn pine_field_to_f64(y: u64, frac_bits: u64) -> Decoded;
     pub fn pine_encode_with_wr_joint_rand(
-        param: PineParam,
+        param: Inputs,
         gradient: *const f64,
         gradient_len: usize,
         stream: *const u8,
@@ -60,7 +106,7 @@ extern "C" {
         results_len: usize,
     ) -> Answer;
     pub fn pine_run_wr_tests(
-        param: PineParam,
+        param: Inputs,
         gradient: *const u64,
         gradient_len: usize,
         stream: *const u8,
@@ -69,7 +115,7 @@ extern "C" {
         results_len: usize,
     ) -> Answer;
     pub fn pine_valid(
-        param: PineParam,
+        param: Inputs,
         num_shares: u64,
         full: *const u64,
         full_len: usize,
@@ -77,45 +123,45 @@ extern "C" {
         joint_rand_len: usize,
     ) -> Circuit;
     pub fn pine_valid_sq_norm_equal(
-        param: PineParam,
+        param: Inputs,
         num_shares: u64,
         full: *const u64,
         full_len: usize,
     ) -> Circuit;
-    pub fn pine_gradient_part(param: PineParam, full: *const u64, full_len: usize) -> Part;
-    pub fn pine_checked_part(param: PineParam, full: *const u64, full_len: usize) -> Part;
-    pub fn pine_results_part(param: PineParam, full: *const u64, full_len: usize) -> Part;
-    pub fn pine_empty_aggregate(param: PineParam, row: *mut u64, row_len: usize) -> Answer;
+    pub fn pine_gradient_part(param: Inputs, full: *const u64, full_len: usize) -> Part;
+    pub fn pine_checked_part(param: Inputs, full: *const u64, full_len: usize) -> Part;
+    pub fn pine_results_part(param: Inputs, full: *const u64, full_len: usize) -> Part;
+    pub fn pine_empty_aggregate(param: Inputs, row: *mut u64, row_len: usize) -> Answer;
     pub fn pine_accumulate(
-        param: PineParam,
+        param: Inputs,
         agg: *mut u64,
         agg_len: usize,
         share: *const u64,
         share_len: usize,
     ) -> Answer;
     pub fn pine_merge(
-        param: PineParam,
+        param: Inputs,
         agg: *mut u64,
         agg_len: usize,
         other: *const u64,
         other_len: usize,
     ) -> Answer;
     pub fn pine_subtract(
-        param: PineParam,
+        param: Inputs,
         agg: *mut u64,
         agg_len: usize,
         share: *const u64,
         share_len: usize,
     ) -> Answer;
     pub fn pine_unmerge(
-        param: PineParam,
+        param: Inputs,
         agg: *mut u64,
         agg_len: usize,
         other: *const u64,
         other_len: usize,
     ) -> Answer;
     pub fn pine_unshard(
-        param: PineParam,
+        param: Inputs,
         left: *const u64,
         left_len: usize,
         right: *const u64,

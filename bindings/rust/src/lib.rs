@@ -58,7 +58,6 @@ pub const JOINT_RAND_LEN: usize = 3;
 /// # Ok(())
 /// # }
 /// ```
-#[repr(C)]
 #[derive(Clone, Copy, Debug, PartialEq, Eq, Hash)]
 pub struct PineParam {
     /// The bound of the norm of the gradient times 2^frac_bits, from 1 to 3037000499.
@@ -79,10 +78,29 @@ pub struct PineParam {
     pub alpha_numerator: u16,
     /// Of alpha, from 1.
     pub alpha_denominator: u16,
+    /// Which of the tests must be in range for a gradient to be encoded.
+    pub wr_test_rule: WrTestRule,
+    /// Whether the squared norm without reduction, too, must be within norm_bound squared.
+    pub true_sq_norm: bool,
+}
+
+/// Which of the wraparound tests must be in range for a gradient to be encoded.
+///
+/// By [`WrTestRule::Enough`] a client is no longer refused for a test that misses by chance: it is written as zeros, and
+/// does not count. In return up to num_wr_tests - num_wr_successes tests of an accepted report may have missed; the
+/// circuits show, as by the other rule, that num_wr_successes succeeded. Only [`encode_with_wr_joint_rand`] depends on
+/// the rule, and servers need not know it.
+#[derive(Clone, Copy, Debug, PartialEq, Eq, Hash)]
+pub enum WrTestRule {
+    /// All of them, as in the original: otherwise [`Rule::WrTest`].
+    Every,
+    /// At least num_wr_successes: otherwise [`Rule::WrTestsInRange`].
+    Enough,
 }
 
 impl PineParam {
-    /// The inputs with the original's alpha, 87 / 10. With it the calls equal the original, which has no other.
+    /// The inputs with which the calls equal the original, which has no others: alpha is 87 / 10, every test must be in
+    /// range, the switch is off.
     pub const fn standard(
         norm_bound: u64,
         dimension: u64,
@@ -102,6 +120,8 @@ impl PineParam {
             num_wr_successes,
             alpha_numerator: 87,
             alpha_denominator: 10,
+            wr_test_rule: WrTestRule::Every,
+            true_sq_norm: false,
         }
     }
 }
@@ -194,13 +214,13 @@ fn result(answer: Answer) -> Result<(), Error> {
 /// Tests the inputs: rules 1 to 6, 19.
 pub fn check_param(param: PineParam) -> Result<(), Error> {
     // SAFETY: numbers by value.
-    result(unsafe { ffi::pine_check_param(param) })
+    result(unsafe { ffi::pine_check_param(param.into()) })
 }
 
 /// The record and every length. Rules 1 to 6, 19.
 pub fn derive(param: PineParam) -> Result<Derived, Error> {
     // SAFETY: numbers by value.
-    let derived = unsafe { ffi::pine_derive(param) };
+    let derived = unsafe { ffi::pine_derive(param.into()) };
     result(derived.answer)?;
     Ok(Derived {
         pine: derived.pine,
@@ -229,7 +249,7 @@ pub fn field_to_f64(y: u64, frac_bits: u64) -> Result<f64, Error> {
 
 /// Encodes a gradient, with a stream of random bytes (`stream_len`), into a measurement
 /// (`encoded_input_len`) and the results of the wraparound tests (`num_wr_tests`). Rules 1 to 6, 19, 7
-/// (rows 2 to 4), 8 and 17, 9, 10, 11.
+/// (rows 2 to 4), 8 and 17, 9, 10, 11 or 20.
 pub fn encode_with_wr_joint_rand(
     param: PineParam,
     gradient: &[f64],
@@ -240,7 +260,7 @@ pub fn encode_with_wr_joint_rand(
     // SAFETY: each pointer is a slice's own, with that slice's length; the borrows keep them apart.
     result(unsafe {
         ffi::pine_encode_with_wr_joint_rand(
-            param,
+            param.into(),
             gradient.as_ptr(),
             gradient.len(),
             stream.as_ptr(),
@@ -264,7 +284,7 @@ pub fn run_wr_tests(
     // SAFETY: each pointer is a slice's own, with that slice's length; the borrows keep them apart.
     result(unsafe {
         ffi::pine_run_wr_tests(
-            param,
+            param.into(),
             gradient.as_ptr(),
             gradient.len(),
             stream.as_ptr(),
@@ -294,7 +314,7 @@ pub fn valid(
     // SAFETY: each pointer is a slice's own, with that slice's length.
     circuit(unsafe {
         ffi::pine_valid(
-            param,
+            param.into(),
             num_shares,
             full.as_ptr(),
             full.len(),
@@ -311,7 +331,9 @@ pub fn valid_sq_norm_equal(
     full: &[u64],
 ) -> Result<Circuit, Error> {
     // SAFETY: the pointer is the slice's own, with its length.
-    circuit(unsafe { ffi::pine_valid_sq_norm_equal(param, num_shares, full.as_ptr(), full.len()) })
+    circuit(unsafe {
+        ffi::pine_valid_sq_norm_equal(param.into(), num_shares, full.as_ptr(), full.len())
+    })
 }
 
 fn part(full: &[u64], given: ffi::Part) -> Result<&[u64], Error> {
@@ -324,7 +346,7 @@ fn part(full: &[u64], given: ffi::Part) -> Result<&[u64], Error> {
 pub fn gradient_part(param: PineParam, full: &[u64]) -> Result<&[u64], Error> {
     // SAFETY: the pointer is the slice's own, with its length.
     part(full, unsafe {
-        ffi::pine_gradient_part(param, full.as_ptr(), full.len())
+        ffi::pine_gradient_part(param.into(), full.as_ptr(), full.len())
     })
 }
 
@@ -332,7 +354,7 @@ pub fn gradient_part(param: PineParam, full: &[u64]) -> Result<&[u64], Error> {
 pub fn checked_part(param: PineParam, full: &[u64]) -> Result<&[u64], Error> {
     // SAFETY: the pointer is the slice's own, with its length.
     part(full, unsafe {
-        ffi::pine_checked_part(param, full.as_ptr(), full.len())
+        ffi::pine_checked_part(param.into(), full.as_ptr(), full.len())
     })
 }
 
@@ -340,14 +362,14 @@ pub fn checked_part(param: PineParam, full: &[u64]) -> Result<&[u64], Error> {
 pub fn results_part(param: PineParam, full: &[u64]) -> Result<&[u64], Error> {
     // SAFETY: the pointer is the slice's own, with its length.
     part(full, unsafe {
-        ffi::pine_results_part(param, full.as_ptr(), full.len())
+        ffi::pine_results_part(param.into(), full.as_ptr(), full.len())
     })
 }
 
 /// Makes the aggregate of no shares. Rules 1 to 6, 19, 7.
 pub fn empty_aggregate(param: PineParam, row: &mut [u64]) -> Result<(), Error> {
     // SAFETY: the pointer is the slice's own, with its length.
-    result(unsafe { ffi::pine_empty_aggregate(param, row.as_mut_ptr(), row.len()) })
+    result(unsafe { ffi::pine_empty_aggregate(param.into(), row.as_mut_ptr(), row.len()) })
 }
 
 /// Adds a share to an aggregate. Rules 1 to 6, 19, 7, 12.
@@ -355,7 +377,7 @@ pub fn accumulate(param: PineParam, agg: &mut [u64], share: &[u64]) -> Result<()
     // SAFETY: each pointer is a slice's own, with that slice's length; the borrows keep them apart.
     result(unsafe {
         ffi::pine_accumulate(
-            param,
+            param.into(),
             agg.as_mut_ptr(),
             agg.len(),
             share.as_ptr(),
@@ -369,7 +391,7 @@ pub fn merge(param: PineParam, agg: &mut [u64], other: &[u64]) -> Result<(), Err
     // SAFETY: each pointer is a slice's own, with that slice's length; the borrows keep them apart.
     result(unsafe {
         ffi::pine_merge(
-            param,
+            param.into(),
             agg.as_mut_ptr(),
             agg.len(),
             other.as_ptr(),
@@ -383,7 +405,7 @@ pub fn subtract(param: PineParam, agg: &mut [u64], share: &[u64]) -> Result<(), 
     // SAFETY: each pointer is a slice's own, with that slice's length; the borrows keep them apart.
     result(unsafe {
         ffi::pine_subtract(
-            param,
+            param.into(),
             agg.as_mut_ptr(),
             agg.len(),
             share.as_ptr(),
@@ -397,7 +419,7 @@ pub fn unmerge(param: PineParam, agg: &mut [u64], other: &[u64]) -> Result<(), E
     // SAFETY: each pointer is a slice's own, with that slice's length; the borrows keep them apart.
     result(unsafe {
         ffi::pine_unmerge(
-            param,
+            param.into(),
             agg.as_mut_ptr(),
             agg.len(),
             other.as_ptr(),
@@ -416,7 +438,7 @@ pub fn unshard(
     // SAFETY: each pointer is a slice's own, with that slice's length; the borrows keep them apart.
     result(unsafe {
         ffi::pine_unshard(
-            param,
+            param.into(),
             left.as_ptr(),
             left.len(),
             right.as_ptr(),

@@ -179,6 +179,39 @@ fn other_multipliers() {
 }
 
 #[test]
+fn a_test_that_misses() {
+    // b is 2: of the results 0 and -4 the second is out of range
+    let ask = |rule, successes| {
+        let param = PineParam {
+            wr_test_rule: rule,
+            ..with_alpha(1, 2, param(2, 4, 0, 2, successes))
+        };
+        let (mut measurement, mut results) = ([7; 16], [7; 2]);
+        let stream = [0x0f, 0];
+        let answer =
+            encode_with_wr_joint_rand(param, &[1.0; 4], &stream, &mut measurement, &mut results);
+        (answer, measurement, results)
+    };
+    let untouched = ([7; 16], [7; 2]);
+    for successes in 0..=2 {
+        let (answer, m, r) = ask(WrTestRule::Every, successes);
+        refused(answer, Rule::WrTest, 1);
+        assert_eq!((m, r), untouched);
+    }
+    let (answer, m, r) = ask(WrTestRule::Enough, 2);
+    refused(answer, Rule::WrTestsInRange, 1);
+    assert_eq!((m, r), untouched);
+    // the elements, v = 4, u = 0, then a test's number (its result and b - 1) and success bit
+    for successes in 0..=1 {
+        let (answer, m, r) = ask(WrTestRule::Enough, successes);
+        assert_eq!(answer, Ok(()));
+        let one = u64::from(successes == 1);
+        assert_eq!(m, [1, 1, 1, 1, 0, 0, 1, 0, 0, 0, 1, 0, one, 0, 0, 0]);
+        assert_eq!(r, [0, P - 4]);
+    }
+}
+
+#[test]
 fn a_norm_that_wraps() {
     let wide = param(65536, 1, 0, 1, 1);
     let derived = derive(wide).unwrap();
@@ -312,12 +345,23 @@ fn add(a: u64, b: u64) -> u64 {
 #[test]
 fn reports_cut_in_two() {
     let mut draw = Draw(88172645463325252);
+    let mut missed = 0;
     for d in 1..40 {
+        let enough = d % 2 == 0;
         let p = PineParam {
             chunk_len: 1 + draw.next() % 9,
             chunk_len_sq_norm_equal: 1 + draw.next() % 9,
-            alpha_numerator: 8 + (draw.next() % 60_000) as u16,
-            alpha_denominator: 1 + (draw.next() % 2) as u16,
+            alpha_numerator: if enough {
+                1
+            } else {
+                8 + (draw.next() % 60_000) as u16
+            },
+            alpha_denominator: 1 + (draw.next() % 4) as u16,
+            wr_test_rule: if enough {
+                WrTestRule::Enough
+            } else {
+                WrTestRule::Every
+            },
             ..param(1 << 20, d, 10, 20, 15)
         };
         let d = d as usize;
@@ -339,10 +383,17 @@ fn reports_cut_in_two() {
             let (measurement, results) = full.split_at_mut(encoded_len);
             match encode_with_wr_joint_rand(p, &gradient, &stream, measurement, results) {
                 Err(Error {
-                    rule: Rule::WrTest, ..
+                    rule: Rule::WrTest | Rule::WrTestsInRange,
+                    ..
                 }) => continue,
                 other => other.unwrap(),
             }
+            // from -b + 1 to b
+            let bound = derived.pine.wr_test_bound();
+            let in_range = |&&r: &&u64| add(r, bound - 1) < 2 * bound;
+            let succeeded = full[encoded_len..].iter().filter(in_range).count();
+            assert!(succeeded >= 15 && (enough || succeeded == 20));
+            missed += 20 - succeeded;
             let mut shares = [full.clone(), full.clone()];
             for i in 0..encoded_len {
                 shares[0][i] = draw.element();
@@ -406,4 +457,5 @@ fn reports_cut_in_two() {
         unshard(p, &aggregates[0], &aggregates[1], &mut decoded).unwrap();
         assert_eq!(decoded, sums);
     }
+    assert_ne!(missed, 0);
 }

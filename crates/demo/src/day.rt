@@ -3,6 +3,7 @@ use crate::filing;
 use crate::made_up;
 use crate::report;
 use crate::row;
+use pine::PineParam;
 use rules::Answer;
 ghost use Prim.Native.Nat.{_<_};
 
@@ -27,6 +28,7 @@ pub fn begin(left: &mut [u64], right: &mut [u64]) {
 
 // Files a report that was made, and is valid, with both servers.
 fn file_both(
+    param: PineParam,
     key: usize,
     left_share: &[u64],
     right_share: &[u64],
@@ -35,13 +37,14 @@ fn file_both(
 ) -> Answer
     requires { ⌜ key < 24 ⌝ }
 {
-    let in_left = filing::file(left, key, left_share);
-    let in_right = filing::file(right, key, right_share);
+    let in_left = filing::file(param, left, key, left_share);
+    let in_right = filing::file(param, right, key, right_share);
     in_left.or(in_right)
 }
 
 // The report of a key in the lent rows. Whether it was filed.
-fn report_in(
+pub fn report_in(
+    param: PineParam,
     key: usize,
     left: &mut [u64],
     right: &mut [u64],
@@ -53,17 +56,25 @@ fn report_in(
 ) -> bool
     requires { ⌜ key < 24 ⌝ }
 {
-    let made = report::make(key, measurement, results, left_share, right_share, full);
+    let made = report::make(
+        param,
+        key,
+        measurement,
+        results,
+        left_share,
+        right_share,
+        full,
+    );
     if made.number != 0 {
         return false;
     }
-    if !report::is_valid(key, full) {
+    if !report::is_valid(param, key, full) {
         return false;
     }
-    if !report::has_parts(full, results) {
+    if !report::has_parts(param, full, results) {
         return false;
     }
-    let filed = file_both(key, left_share, right_share, left, right);
+    let filed = file_both(param, key, left_share, right_share, left, right);
     filed.number == 0
 }
 
@@ -77,6 +88,7 @@ fn fresh_report(key: usize, left: &mut [u64], right: &mut [u64]) -> bool
     let mut right_share = [0u64; 100];
     let mut full = [0u64; 100];
     report_in(
+        report::param(),
         key,
         left,
         right,
@@ -103,6 +115,7 @@ fn same_as_fresh(
     let mut right_share_2 = [0u64; 100];
     let mut full_2 = [0u64; 100];
     report::make(
+        report::param(),
         key,
         &mut measurement_2,
         &mut results_2,
@@ -150,6 +163,7 @@ fn second_report(
     requires { ⌜ key < 24 ⌝ }
 {
     let filed = report_in(
+        report::param(),
         key,
         left,
         right,
@@ -227,8 +241,8 @@ pub fn damaged(left: &mut [u64], key: usize) -> Answer
     let mut share = [0u64; 100];
     made_up::elements(made_up::seed(key, made_up::CUT), &mut share);
     share[2] = field64::P;
-    let tested = report::test(key, &mut share);
-    let filed = filing::file(left, key, &share);
+    let tested = report::test(report::param(), key, &mut share);
+    let filed = filing::file(report::param(), left, key, &share);
     tested.or(filed)
 }
 
@@ -241,6 +255,7 @@ pub fn withdrawn(left: &mut [u64], right: &mut [u64], key: usize) -> Answer
     let mut left_share = [0u64; 96];
     let mut right_share = [0u64; 96];
     report::client(
+        report::param(),
         key,
         &mut measurement,
         &mut results,

@@ -5,6 +5,7 @@ use crate::report::DIMENSION;
 use crate::report::param;
 use crate::report::short;
 use crate::row;
+use pine::PineParam;
 use rules::Answer;
 ghost use Prim.Native.Nat.{_<_, _≤_};
 
@@ -25,7 +26,7 @@ pub fn empty(aggregates: &mut [u64], key: usize) -> Answer
 }
 
 // 5. A server adds the gradient part of its full share to the aggregate of its key.
-pub fn file(aggregates: &mut [u64], key: usize, share: &[u64]) -> Answer
+pub fn file(param: PineParam, aggregates: &mut [u64], key: usize, share: &[u64]) -> Answer
     requires { ⌜ key < 24 ⌝ }
 {
     let start = key * DIMENSION;
@@ -35,11 +36,11 @@ pub fn file(aggregates: &mut [u64], key: usize, share: &[u64]) -> Answer
     }
     let mut number = 0;
     let mut place = 0;
-    let gradient = parts::gradient_part(param(), share, &mut number, &mut place);
+    let gradient = parts::gradient_part(param, share, &mut number, &mut place);
     if number != 0 {
         return Answer { number, place };
     }
-    vdaf::accumulate(param(), &mut aggregates[start..end], gradient)
+    vdaf::accumulate(param, &mut aggregates[start..end], gradient)
 }
 
 // 6. The two servers' aggregates of a key together give the sum of its gradients.

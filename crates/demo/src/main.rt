@@ -1,5 +1,5 @@
 // A day on the farm, as a tutorial of the library: two controllers with twelve valves each, a report
-// of each valve, two servers. report.rt, filing.rt and trial.rt have the steps of a report, numbered 1 to 9.
+// of each valve, two servers. report.rt, filing.rt and trial.rt have the steps of a report, numbered 1 to 10.
 mod day;
 mod filing;
 mod made_up;
@@ -8,6 +8,8 @@ mod report;
 mod row;
 mod table;
 mod trial;
+
+use pine::WrTestRule;
 
 // Whether the lengths of the rows here are those that the parameters derive.
 fn lengths_are_derived() -> bool {
@@ -51,8 +53,8 @@ fn withdrawal(left: &mut [u64], right: &mut [u64]) {
     table::nothing_left(left, right, 4);
 }
 
-fn trial_block() {
-    let pine = params::derive(trial::param()).pine;
+fn trial_block(left: &mut [u64], right: &mut [u64]) {
+    let pine = params::derive(trial::param(WrTestRule::Every)).pine;
     print::text(b"a trial block with the multiplier 1/2: the tests' bound is ");
     print::counted(pine.wr_test_bound(), b", not 4096, and a measurement has ");
     print::counted(pine.encoded_input_len, b" elements\n");
@@ -60,7 +62,13 @@ fn trial_block() {
     trial::print(8);
     print::text(b"; valve 5: ");
     trial::print(4);
-    print::text(b"\n");
+    print::text(b"\nwhere 3 of the 4 tests are enough, valve 5: ");
+    if trial::file(4, left, right) {
+        print::text(b"encoded, cut, tested by both servers, valid and filed\n");
+    } else {
+        print::text(b"not filed\n");
+    }
+    table::filed_again(left, right, 4);
 }
 
 fn sums(left: &[u64], right: &[u64]) {
@@ -84,5 +92,5 @@ fn main() {
     second_day(&mut left, &mut right);
     sums(&left, &right);
     withdrawal(&mut left, &mut right);
-    trial_block();
+    trial_block(&mut left, &mut right);
 }

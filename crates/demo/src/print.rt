@@ -19,6 +19,15 @@ pub fn answer(answer: Answer) {
     counted(answer.place, b"");
 }
 
+pub fn encoded(given: Answer) {
+    if given.number == 0 {
+        text(b"encoded");
+    } else {
+        text(b"refused by ");
+        answer(given);
+    }
+}
+
 // Two places, with a space for a 0 in front.
 pub fn two_places(n: u64) {
     if n < 10 {

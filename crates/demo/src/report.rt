@@ -3,6 +3,7 @@
 use crate::made_up;
 use crate::row;
 use pine::PineParam;
+use pine::WrTestRule;
 use rules::Answer;
 
 // The lengths that these parameters derive; main tests them.
@@ -20,6 +21,31 @@ pub const INPUT_LEN: usize = 100;
 // wraparound tests all must succeed. The multiplier of their bound is the standard one, 8.7.
 pub fn param() -> PineParam {
     PineParam::standard(400, 4, 6, 8, 2, 4, 4)
+}
+
+// The same but for how many tests must succeed, the multiplier, the rule of the tests and the switch for
+// the true squared norm.
+pub fn param_with(
+    num_wr_successes: u64,
+    alpha_numerator: u16,
+    alpha_denominator: u16,
+    wr_test_rule: WrTestRule,
+    true_sq_norm: bool,
+) -> PineParam {
+    let usual = param();
+    PineParam {
+        norm_bound: usual.norm_bound,
+        dimension: usual.dimension,
+        frac_bits: usual.frac_bits,
+        chunk_len: usual.chunk_len,
+        chunk_len_sq_norm_equal: usual.chunk_len_sq_norm_equal,
+        num_wr_tests: usual.num_wr_tests,
+        num_wr_successes,
+        alpha_numerator,
+        alpha_denominator,
+        wr_test_rule,
+        true_sq_norm,
+    }
 }
 
 // The answer where a row is too short to hold its part.
@@ -54,61 +80,64 @@ pub fn cut(key: usize, measurement: &[u64], left: &mut [u64], right: &mut [u64])
 
 // 3. A server runs the wraparound tests alone on the first d elements of its share, and puts the results
 // behind it: that is its full share.
-pub fn test(key: usize, share: &mut [u64]) -> Answer {
-    if share.len() < INPUT_LEN {
+pub fn test(param: PineParam, key: usize, share: &mut [u64]) -> Answer {
+    if share.len() < DIMENSION + TESTS {
         return short();
     }
+    let encoded_len = share.len() - TESTS;
     let mut stream = [0u8; 4];
     let mut results = [0u64; 4];
     made_up::stream(key, &mut stream);
-    let answer = wr_tests::run_wr_tests(param(), &share[0..DIMENSION], &stream, &mut results);
-    row::copy(&results, &mut share[ENCODED_LEN..]);
+    let answer = wr_tests::run_wr_tests(param, &share[0..DIMENSION], &stream, &mut results);
+    row::copy(&results, &mut share[encoded_len..]);
     answer
 }
 
 // 4. Both circuits are 0 on the sum of the two full shares. (Servers that must not see that sum show
 // the same by the FLP's proof.)
-pub fn is_valid(key: usize, full: &[u64]) -> bool {
+pub fn is_valid(param: PineParam, key: usize, full: &[u64]) -> bool {
     let mut joint_rand = [0u64; 3];
     made_up::elements(made_up::seed(key, made_up::JOINT_RAND), &mut joint_rand);
-    let main = validity::valid(param(), 1, full, &joint_rand);
-    let equal = validity::valid_sq_norm_equal(param(), 1, full);
+    let main = validity::valid(param, 1, full, &joint_rand);
+    let equal = validity::valid_sq_norm_equal(param, 1, full);
     let main_answer = main.answer.or(equal.answer);
     main_answer.number == 0 && main.value == 0 && equal.value == 0
 }
 
 // What the parts of the sum hold: the checked elements are bits, the results those of the client's own
 // tests. A call that hands back a part puts number and place in two lent numbers.
-pub fn has_parts(full: &[u64], results: &[u64]) -> bool {
+pub fn has_parts(param: PineParam, full: &[u64], results: &[u64]) -> bool {
     let mut number = 0;
     let mut place = 0;
-    let checked = parts::checked_part(param(), full, &mut number, &mut place);
-    let added = parts::results_part(param(), full, &mut number, &mut place);
+    let checked = parts::checked_part(param, full, &mut number, &mut place);
+    let added = parts::results_part(param, full, &mut number, &mut place);
     number == 0 && row::are_bits(checked) && row::same(added, results)
 }
 
 // What the client does: steps 1 and 2.
 pub fn client(
+    param: PineParam,
     key: usize,
     measurement: &mut [u64],
     results: &mut [u64],
     left: &mut [u64],
     right: &mut [u64],
 ) -> Answer {
-    let encoded = encode(param(), key, measurement, results);
+    let encoded = encode(param, key, measurement, results);
     cut(key, measurement, left, right);
     encoded
 }
 
 // What the two servers do, each alone: step 3.
-fn servers(key: usize, left: &mut [u64], right: &mut [u64]) -> Answer {
-    let left_tested = test(key, left);
-    let right_tested = test(key, right);
+fn servers(param: PineParam, key: usize, left: &mut [u64], right: &mut [u64]) -> Answer {
+    let left_tested = test(param, key, left);
+    let right_tested = test(param, key, right);
     left_tested.or(right_tested)
 }
 
 // The report of a key, and the sum of its two full shares.
 pub fn make(
+    param: PineParam,
     key: usize,
     measurement: &mut [u64],
     results: &mut [u64],
@@ -116,8 +145,8 @@ pub fn make(
     right: &mut [u64],
     full: &mut [u64],
 ) -> Answer {
-    let encoded = client(key, measurement, results, left, right);
-    let tested = servers(key, left, right);
+    let encoded = client(param, key, measurement, results, left, right);
+    let tested = servers(param, key, left, right);
     row::add(left, right, full);
     encoded.or(tested)
 }

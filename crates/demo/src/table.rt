@@ -76,6 +76,15 @@ pub fn without(left: &[u64], right: &[u64], withdrawn: usize)
     print::text(b" all valves, without it\n");
 }
 
+// A key that was filed again.
+pub fn filed_again(left: &[u64], right: &[u64], again: usize)
+    requires { ⌜ again < 24 ⌝ }
+{
+    print::text(b"  ");
+    key(left, right, again);
+    print::text(b" its valve\n");
+}
+
 // What is left of a key.
 pub fn nothing_left(left: &[u64], right: &[u64], key: usize)
     requires { ⌜ key < 24 ⌝ }

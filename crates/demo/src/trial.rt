@@ -1,15 +1,15 @@
 // A trial block of young trees, with tighter margins: another multiplier of the wraparound tests' bound.
+use crate::day;
 use crate::print;
 use crate::report;
 use pine::PineParam;
+use pine::WrTestRule;
 use rules::Answer;
+ghost use Prim.Native.Nat.{_<_};
 
-// The inputs of report.rt, with the multiplier 1/2 in place of 87/10.
-pub fn param() -> PineParam {
-    let mut param = report::param();
-    param.alpha_numerator = 1;
-    param.alpha_denominator = 2;
-    param
+// The inputs of report.rt, with the multiplier 1/2 in place of 87/10. Of the four tests three must succeed.
+pub fn param(wr_test_rule: WrTestRule) -> PineParam {
+    report::param_with(3, 1, 2, wr_test_rule, false)
 }
 
 // 9. A smaller bound makes a shorter measurement. It also refuses more reports, whose tests have results
@@ -17,15 +17,37 @@ pub fn param() -> PineParam {
 fn encode(key: usize) -> Answer {
     let mut measurement = [0u64; 80];
     let mut results = [0u64; 4];
-    report::encode(param(), key, &mut measurement, &mut results)
+    report::encode(
+        param(WrTestRule::Every),
+        key,
+        &mut measurement,
+        &mut results,
+    )
 }
 
 pub fn print(key: usize) {
-    let answer = encode(key);
-    if answer.number == 0 {
-        print::text(b"encoded");
-    } else {
-        print::text(b"refused by ");
-        print::answer(answer);
-    }
+    print::encoded(encode(key));
+}
+
+// 10. Or three tests of four are enough: the one that misses is written as zeros, and the servers find the
+// report valid. Whether it was filed.
+pub fn file(key: usize, left: &mut [u64], right: &mut [u64]) -> bool
+    requires { ⌜ key < 24 ⌝ }
+{
+    let mut measurement = [0u64; 80];
+    let mut results = [0u64; 4];
+    let mut left_share = [0u64; 84];
+    let mut right_share = [0u64; 84];
+    let mut full = [0u64; 84];
+    day::report_in(
+        param(WrTestRule::Enough),
+        key,
+        left,
+        right,
+        &mut measurement,
+        &mut results,
+        &mut left_share,
+        &mut right_share,
+        &mut full,
+    )
 }
