@@ -108,6 +108,14 @@ impl Row {
         }
     }
 
+    /// What it holds; not for bytes.
+    pub fn words(&self) -> &[u64] {
+        match self {
+            Row::Stream(_) => &[],
+            Row::Doubles(row) | Row::Elements(row) | Row::Aggregate(row) | Row::Written(row) => row,
+        }
+    }
+
     /// The elements that are read.
     pub fn elements(&self) -> &[u64] {
         match self {

@@ -16,11 +16,13 @@ pub struct Same {
     pub compared: usize,
     /// Elements that had to stay.
     pub unchanged: usize,
+    /// The rows that an accepted call wrote.
+    pub written: Vec<Vec<u64>>,
 }
 
 type Outcome = Result<(), String>;
 
-fn equal(what: &str, ours: &[u64], wanted: &[u64]) -> Outcome {
+pub fn equal(what: &str, ours: &[u64], wanted: &[u64]) -> Outcome {
     if ours.len() != wanted.len() {
         return Err(format!("{what}: ours has {} elements, wanted {}", ours.len(), wanted.len()));
     }
@@ -44,7 +46,7 @@ fn len_of(rows: &[(usize, &Lent)]) -> usize {
 fn refused(answer: Answer, given: &Given, rows: &[(usize, &Lent)]) -> Result<Same, String> {
     equal("the values beside a refusal", &given.values, &vec![0; given.values.len()])?;
     unchanged(rows)?;
-    Ok(Same { answer, compared: 0, unchanged: len_of(rows) })
+    Ok(Same { answer, compared: 0, unchanged: len_of(rows), written: vec![] })
 }
 
 fn accepted(case: &Case, given: &Given, rows: &[(usize, &Lent)]) -> Result<Same, String> {
@@ -59,15 +61,15 @@ fn accepted(case: &Case, given: &Given, rows: &[(usize, &Lent)]) -> Result<Same,
         }
     }
     unchanged(&read)?;
-    Ok(Same { answer: ACCEPTED, compared: given.values.len() + len_of(&written), unchanged: len_of(&read) })
+    let (compared, unchanged) = (given.values.len() + len_of(&written), len_of(&read));
+    Ok(Same { answer: ACCEPTED, compared, unchanged, written: original.rows })
 }
 
-/// What was the same, or both answers and the first difference.
-pub fn compare(random: &mut Random, case: &Case) -> Result<Same, String> {
+/// What was the same, or both answers and the first difference. The rows lent hold what the case's do.
+pub fn compare_on(rows: &mut [Lent], case: &Case) -> Result<Same, String> {
     let answer = rules::answer(case);
-    let mut rows: Vec<Lent> = case.rows.iter().map(|row| Lent::new(random, row)).collect();
-    let given = ours::call(case, &mut rows);
-    let rows: Vec<(usize, &Lent)> = (1..).zip(&rows).collect();
+    let given = ours::call(case, rows);
+    let rows: Vec<(usize, &Lent)> = (1..).zip(&*rows).collect();
     let found = if given.answer != answer {
         Err("the answers differ".into())
     } else if answer == ACCEPTED {
@@ -76,4 +78,9 @@ pub fn compare(random: &mut Random, case: &Case) -> Result<Same, String> {
         refused(answer, &given, &rows)
     };
     found.map_err(|difference| format!("ours {}, by document 01 {answer}; {difference}", given.answer))
+}
+
+pub fn compare(random: &mut Random, case: &Case) -> Result<Same, String> {
+    let mut rows: Vec<Lent> = case.rows.iter().map(|row| Lent::new(random, row)).collect();
+    compare_on(&mut rows, case)
 }

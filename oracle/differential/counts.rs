@@ -49,9 +49,14 @@ impl Counts {
         self.0[call as usize].add(&one);
     }
 
-    pub fn show(&self) {
+    /// Says where the calls were; nothing where there were none.
+    pub fn show(&self, title: &str) {
         let mut all = Count::default();
         self.0.iter().for_each(|count| all.add(count));
+        if all.calls() == 0 {
+            return;
+        }
+        println!("\n{} calls {title}:\n", grouped(all.calls()));
         let rules = RULES.map(|rule| format!(" {rule} |"));
         println!("| call | calls | accepted |{} elements compared | elements unchanged |", rules.concat());
         println!("|---|{}", "---:|".repeat(RULES.len() + 4));

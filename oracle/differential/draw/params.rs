@@ -142,11 +142,26 @@ fn just_beyond(random: &mut Random, param: &mut Param) {
     }
 }
 
+fn with_shape(random: &mut Random, (d, t): (u64, u64)) -> Param {
+    let (n, f) = (norm_bound(random), if random.once_in(2) { 0 } else { random.between(F.0, F.1) });
+    with_chunks(random, n, d, f, t)
+}
+
+/// For calls on rows of one length.
+pub fn dimension(random: &mut Random) -> u64 {
+    shape(random).0
+}
+
+/// For one of these calls.
+pub fn of_dimension(random: &mut Random, d: u64) -> Param {
+    let (_, t) = shape(random);
+    with_shape(random, (d, t))
+}
+
 /// For a call that has rows.
 pub fn for_rows(random: &mut Random) -> Param {
-    let (d, t) = shape(random);
-    let (n, f) = (norm_bound(random), if random.once_in(2) { 0 } else { random.between(F.0, F.1) });
-    let mut param = with_chunks(random, n, d, f, t);
+    let shape = shape(random);
+    let mut param = with_shape(random, shape);
     if random.once_in(128) {
         just_beyond(random, &mut param);
     }
