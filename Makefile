@@ -14,8 +14,8 @@ demo:
 	$(kit)
 	rt try demo && cat crates/demo/stdout
 
-# every call of the archive, alone and in lists of calls, beside the original Rust, in both of its profiles; ORACLE is
-# the folder in which the original was built (oracle/README.md); SEED and COUNT, if set, draw other cases
+# every call of the archive beside the original Rust, in both of its profiles; ORACLE is the folder in which the
+# original was built (oracle/README.md); SEED and COUNT, if set, draw other cases
 differential:
 	oracle/differential/run
 
