@@ -25,9 +25,11 @@ import multiplier
 import parts
 import reports
 import singles
+import test_rule
 from common import BAD, NONE, OK, TOP, Case, below
 
-KINDS = {**singles.KINDS, **reports.KINDS, **circuits.KINDS, **parts.KINDS, **aggregates.KINDS, **multiplier.KINDS}
+KINDS = {**singles.KINDS, **reports.KINDS, **circuits.KINDS, **parts.KINDS, **aggregates.KINDS, **multiplier.KINDS,
+         **test_rule.KINDS}
 
 
 # Malformed lines, and lines without an answer

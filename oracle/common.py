@@ -1,6 +1,6 @@
 """What the kinds of case share: document 01's limits, lengths and rules, and ways to draw numbers and rows.
 
-Lengths, and what rules 10, 11 and 17 ask, are worked out here from documents 01 and 02 alone.
+Lengths, and what rules 10, 11, 17 and 20 ask, are worked out here from documents 01 and 02 alone.
 """
 
 import functools
@@ -120,6 +120,10 @@ class Inputs(NamedTuple):
     K: int
     later: Later | None = None      # the Rust's, where none are written
 
+    @property
+    def setting(self):
+        return self.later or RUST
+
     def __str__(self):
         """The seven of document 01."""
         return " ".join(map(str, self[:7]))
@@ -136,10 +140,14 @@ class Sizes(NamedTuple):
     measurement: int
     full: int
 
+    def in_range(self, result):
+        """Of a test's result, centred."""
+        return -self.test_bound < result <= self.test_bound
+
 
 def sizes(inputs):
     n, d, t = inputs.n, inputs.d, inputs.T
-    later = inputs.later or RUST
+    later = inputs.setting
     bits = (n * n).bit_length()
     test_bound = 1 << (-(-later.num * n // max(later.den, 1))).bit_length()
     test_bits = (2 * test_bound - 1).bit_length()
@@ -299,13 +307,13 @@ def lent(out):
 
 def case_of(kind, inputs, rest, want, given, worked_out=False):
     """A case of the inputs. What `given` works out, an accepted one must give where the original has no such call and
-    where later inputs are written; it is held to the original too, if these are the Rust's."""
+    where later inputs are written; it is held to the original too, if it has the call and the multiplier is the Rust's."""
     plain = f"{kind} {inputs}{rest}"
     if want == OK and (worked_out or inputs.later):
         want = f"{OK} {given()}"
     if inputs.later is None:
         return Case(kind, plain, want)
-    return Case("with", f"{inputs.later} {plain}", want, plain if inputs.later == RUST and not worked_out else "")
+    return Case("with", f"{inputs.later} {plain}", want, plain if inputs.later[:2] == RUST[:2] and not worked_out else "")
 
 
 # Doubles

@@ -50,11 +50,14 @@ def draw_later(rng):
     return rng.choice((Later(0, den), Later(num, 0), Later(0, 0))) if way == 4 else Later(num, den)
 
 
-def draw(rng):
-    kind, later = rng.choice(list(DRAWN)), draw_later(rng)
+def drawn(rng, kind, later):
     if kind in ALONE:
         return prefixed(later, DRAWN[kind].draw(rng))
     return DRAWN[kind].draw(rng, later)
+
+
+def draw(rng):
+    return drawn(rng, rng.choice(list(DRAWN)), draw_later(rng))
 
 
 # Fixed cases
