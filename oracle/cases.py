@@ -26,10 +26,11 @@ import parts
 import reports
 import singles
 import test_rule
+import true_length
 from common import BAD, NONE, OK, TOP, Case, below
 
 KINDS = {**singles.KINDS, **reports.KINDS, **circuits.KINDS, **parts.KINDS, **aggregates.KINDS, **multiplier.KINDS,
-         **test_rule.KINDS}
+         **test_rule.KINDS, **true_length.KINDS}
 
 
 # Malformed lines, and lines without an answer
