@@ -8,7 +8,7 @@
  * Numbers. A field number is a uint64_t below p = 2^64 - 2^32 + 1. A row is a pointer and its length in
  * elements, in that order. Derive the lengths by pine_derive.
  *
- * Answers. number 0 and place 0: accepted. Otherwise number is the first rule broken, in the order 1 to
+ * Answers. number 0 and place 0: accepted. Otherwise number is the first rule broken, in the order 1 to 6, 19,
  * 7, 13, 12, 8 with 17, 9, 10, 11, and place is where (enum PineRule). A refused call leaves every row as it
  * was. An accepted call writes every element of its output rows and reads none of what they held before
  * (of an aggregate that is added to or taken from: argument and result).
@@ -21,7 +21,7 @@
  * - Every element of a row that is read has been written once. Output rows may be uninitialised.
  * - The floating-point environment is C's default: round to nearest, exceptions masked, subnormals kept
  *   (neither flush-to-zero nor denormals-are-zero, which gcc's -ffast-math turns on in main programs).
- * - The stack has room: docs/C.md has the measured need of each call, at most 4776 bytes.
+ * - The stack has room: docs/C.md has the measured need of each call, at most 4792 bytes.
  *
  * No call keeps state, allocates, locks, does input or output, or fails otherwise than by its answer:
  * any number of threads may call at once. Nothing depends on a NaN's payload or sign: a NaN is refused,
@@ -70,8 +70,9 @@ enum PineRule {
     PINE_WR_TEST = 11,         /* a wraparound test's result is out of range; place: the test, from 0 */
     PINE_ELEMENT = 12,         /* not below p; place: its index over the rows read, joined in order */
     PINE_NUM_SHARES = 13,      /* 0 or above its limit; place 0 */
-    PINE_FLOOR = 17            /* a coordinate's floor is below -(p - 1) / 2 or above (p - 1) / 2; place: its
+    PINE_FLOOR = 17,           /* a coordinate's floor is below -(p - 1) / 2 or above (p - 1) / 2; place: its
                                 * index in the gradient. Of 8 and 17 the lower index is answered */
+    PINE_ALPHA = 19            /* alpha_numerator or alpha_denominator is 0; place 0 */
 };
 
 /* The first rule broken and its place, or 0 and 0. */
@@ -80,7 +81,13 @@ typedef struct PineAnswer {
     uint64_t place;
 } PineAnswer;
 
-/* The seven inputs: n, d, f, c, e, T and K of the papers. */
+/* The inputs: n, d, f, c, e, T and K of the papers, and alpha as a fraction. The bound b of the wraparound
+ * tests is the smallest power of two not below ceil(alpha * norm_bound) + 1. Begin from pine_param_standard.
+ *
+ * What another alpha changes. A result from -b + 1 to b is in range, so a smaller b refuses more streams by
+ * rule 11, and a larger one lets more gradients pass whose squared norm has wrapped around p; how many, no
+ * proof here says. Each time b doubles, wr_test_bits is one more, and a measurement has num_wr_tests elements
+ * more. Client and servers must use the same alpha, as they must the other inputs. */
 typedef struct PineParam {
     uint64_t norm_bound;
     uint64_t dimension;
@@ -89,7 +96,18 @@ typedef struct PineParam {
     uint64_t chunk_len_sq_norm_equal;
     uint64_t num_wr_tests;
     uint64_t num_wr_successes;
+    uint16_t alpha_numerator;
+    uint16_t alpha_denominator;
 } PineParam;
+
+/* The inputs with the original's alpha, 87 / 10. With it the calls equal the original, which has no other. */
+static inline PineParam pine_param_standard(uint64_t norm_bound, uint64_t dimension, uint64_t frac_bits,
+                                            uint64_t chunk_len, uint64_t chunk_len_sq_norm_equal,
+                                            uint64_t num_wr_tests, uint64_t num_wr_successes) {
+    PineParam param = {norm_bound,   dimension,        frac_bits, chunk_len, chunk_len_sq_norm_equal,
+                       num_wr_tests, num_wr_successes, 87,        10};
+    return param;
+}
 
 /* What follows from the inputs. */
 typedef struct PineRecord {
@@ -158,10 +176,10 @@ typedef struct PinePart {
 
 /* ---- parameters */
 
-/* Rules 1 to 6. */
+/* Rules 1 to 6, 19. */
 PineAnswer pine_check_param(PineParam param);
 
-/* The record and every length. Rules 1 to 6. */
+/* The record and every length. Rules 1 to 6, 19. */
 PineDerived pine_derive(PineParam param);
 
 /* The bound b of the wraparound tests, from a derived record: a result from -b + 1 to b is in range. 0 for
@@ -181,7 +199,7 @@ PineDecoded pine_field_to_f64(uint64_t y, uint64_t frac_bits);
 
 /* Encodes a gradient of doubles (row 1, length d), with a stream of random bytes (row 2, stream_len),
  * into the measurement (row 3, encoded_input_len; written) and the results of the wraparound tests
- * (row 4, num_wr_tests; written). Rules 1 to 7 (7: rows 2 to 4), 8 and 17, 9, 10, 11. */
+ * (row 4, num_wr_tests; written). Rules 1 to 6, 19, 7 (rows 2 to 4), 8 and 17, 9, 10, 11. */
 PineAnswer pine_encode_with_wr_joint_rand(PineParam param,
                                           const double *gradient, size_t gradient_len,
                                           const uint8_t *stream, size_t stream_len,
@@ -189,7 +207,7 @@ PineAnswer pine_encode_with_wr_joint_rand(PineParam param,
                                           uint64_t *results, size_t results_len);
 
 /* The wraparound tests alone, on a share of the gradient's elements (row 1, d), with the report's stream
- * (row 2, stream_len), into results (row 3, num_wr_tests; written). Rules 1 to 7, 12. */
+ * (row 2, stream_len), into results (row 3, num_wr_tests; written). Rules 1 to 6, 19, 7, 12. */
 PineAnswer pine_run_wr_tests(PineParam param,
                              const uint64_t *gradient, size_t gradient_len,
                              const uint8_t *stream, size_t stream_len,
@@ -199,48 +217,49 @@ PineAnswer pine_run_wr_tests(PineParam param,
 
 /* PineType, on a full vector (row 1, input_len) with joint randomness (row 2, 3 elements). On a report's
  * own full vector, or the sum of its full shares, with num_shares 1, the value is 0 whatever the joint
- * randomness. Rules 1 to 7, 13, 12. */
+ * randomness. Rules 1 to 6, 19, 7, 13, 12. */
 PineCircuit pine_valid(PineParam param, uint64_t num_shares,
                        const uint64_t *full, size_t full_len,
                        const uint64_t *joint_rand, size_t joint_rand_len);
 
 /* PineTypeSquaredNormEqual, on a full vector (row 1, input_len); 0 as above. num_shares is tested, and
- * not used otherwise. Rules 1 to 7, 13, 12. */
+ * not used otherwise. Rules 1 to 6, 19, 7, 13, 12. */
 PineCircuit pine_valid_sq_norm_equal(PineParam param, uint64_t num_shares,
                                      const uint64_t *full, size_t full_len);
 
 /* Where the parts of a full vector (row 1, input_len) lie in it: the gradient, the checked elements, the
- * results. Rules 1 to 7, 12. */
+ * results. Rules 1 to 6, 19, 7, 12. */
 PinePart pine_gradient_part(PineParam param, const uint64_t *full, size_t full_len);
 PinePart pine_checked_part(PineParam param, const uint64_t *full, size_t full_len);
 PinePart pine_results_part(PineParam param, const uint64_t *full, size_t full_len);
 
 /* ---- aggregates, of d elements each */
 
-/* Makes the aggregate of no shares (row 1, written). Rules 1 to 7. */
+/* Makes the aggregate of no shares (row 1, written). Rules 1 to 6, 19, 7. */
 PineAnswer pine_empty_aggregate(PineParam param, uint64_t *row, size_t row_len);
 
-/* Adds a share (row 2) to an aggregate (row 1, written). Rules 1 to 7, 12. */
+/* Adds a share (row 2) to an aggregate (row 1, written). Rules 1 to 6, 19, 7, 12. */
 PineAnswer pine_accumulate(PineParam param,
                            uint64_t *agg, size_t agg_len,
                            const uint64_t *share, size_t share_len);
 
-/* Adds another aggregate (row 2) to an aggregate (row 1, written). Rules 1 to 7, 12. */
+/* Adds another aggregate (row 2) to an aggregate (row 1, written). Rules 1 to 6, 19, 7, 12. */
 PineAnswer pine_merge(PineParam param,
                       uint64_t *agg, size_t agg_len,
                       const uint64_t *other, size_t other_len);
 
-/* Takes a share (row 2) out of an aggregate (row 1, written), whether or not it was added. Rules 1 to 7, 12. */
+/* Takes a share (row 2) out of an aggregate (row 1, written), whether or not it was added. Rules 1 to 6, 19,
+ * 7, 12. */
 PineAnswer pine_subtract(PineParam param,
                          uint64_t *agg, size_t agg_len,
                          const uint64_t *share, size_t share_len);
 
-/* Takes another aggregate (row 2) out of an aggregate (row 1, written). Rules 1 to 7, 12. */
+/* Takes another aggregate (row 2) out of an aggregate (row 1, written). Rules 1 to 6, 19, 7, 12. */
 PineAnswer pine_unmerge(PineParam param,
                         uint64_t *agg, size_t agg_len,
                         const uint64_t *other, size_t other_len);
 
-/* Adds two aggregates (rows 1 and 2) and decodes the sums (row 3, written). Rules 1 to 7, 12. */
+/* Adds two aggregates (rows 1 and 2) and decodes the sums (row 3, written). Rules 1 to 6, 19, 7, 12. */
 PineAnswer pine_unshard(PineParam param,
                         const uint64_t *left, size_t left_len,
                         const uint64_t *right, size_t right_len,
@@ -259,7 +278,7 @@ PineAnswer pine_unshard(PineParam param,
 PINE_ASSERT(sizeof(size_t) == 8);
 PINE_ASSERT(sizeof(double) == 8);
 PINE_ASSERT(sizeof(PineAnswer) == 16);
-PINE_ASSERT(sizeof(PineParam) == 56);
+PINE_ASSERT(sizeof(PineParam) == 64);
 PINE_ASSERT(sizeof(PineRecord) == 128);
 PINE_ASSERT(sizeof(PineLengths) == 48);
 PINE_ASSERT(sizeof(PineDerived) == 248);

@@ -10,23 +10,13 @@
 
 enum { DIMENSION = 5, REPORTS = 3, WITHDRAWN = 1 };
 
-static const PineParam param = {
-    /* norm_bound: of the gradient times 2^frac_bits */ 1 << 12,
-    /* dimension */ DIMENSION,
-    /* frac_bits */ 8,
-    /* chunk_len */ 16,
-    /* chunk_len_sq_norm_equal */ 2,
-    /* num_wr_tests */ 10,
-    /* num_wr_successes */ 10,
-};
-
 static const double gradients[REPORTS][DIMENSION] = {
     {1.5, -2.25, 0.0, 4.0, -0.125},
     {-3.0, 0.5, 8.0, -1.0, 0.25},
     {0.0, 0.75, -6.5, 2.5, -10.0},
 };
 
-/* By number; 14 to 16 are no rules of these calls. */
+/* By number; 14 to 16 and 18 are no rules of these calls. */
 static const char *const rules[] = {
     "accepted",
     "num_wr_successes is above num_wr_tests",
@@ -46,6 +36,8 @@ static const char *const rules[] = {
     "",
     "",
     "a coordinate's floor is out of the field's limits",
+    "",
+    "alpha_numerator or alpha_denominator is 0",
 };
 
 static void must(PineAnswer answer, const char *call) {
@@ -94,7 +86,7 @@ static uint64_t add(uint64_t a, uint64_t b) {
 }
 
 /* The two aggregates added, as doubles. */
-static void print_sum(const uint64_t *left, const uint64_t *right) {
+static void print_sum(PineParam param, const uint64_t *left, const uint64_t *right) {
     double decoded[DIMENSION];
     must(pine_unshard(param, left, DIMENSION, right, DIMENSION, decoded, DIMENSION), "unshard");
     for (size_t i = 0; i < DIMENSION; i++) {
@@ -103,6 +95,14 @@ static void print_sum(const uint64_t *left, const uint64_t *right) {
 }
 
 int main(void) {
+    const PineParam param = pine_param_standard(
+        /* norm_bound: of the gradient times 2^frac_bits */ 1 << 12,
+        /* dimension */ DIMENSION,
+        /* frac_bits */ 8,
+        /* chunk_len */ 16,
+        /* chunk_len_sq_norm_equal */ 2,
+        /* num_wr_tests */ 10,
+        /* num_wr_successes */ 10);
     const PineDerived derived = pine_derive(param);
     must(derived.answer, "derive");
     const size_t d = (size_t)param.dimension;
@@ -174,13 +174,13 @@ int main(void) {
         }
     }
     printf("the sum of %d gradients:", REPORTS);
-    print_sum(aggregate[0], aggregate[1]);
+    print_sum(param, aggregate[0], aggregate[1]);
 
     for (int s = 0; s < 2; s++) {
         must(pine_subtract(param, aggregate[s], d, withdrawn[s], d), "subtract");
     }
     printf("; without the second:");
-    print_sum(aggregate[0], aggregate[1]);
+    print_sum(param, aggregate[0], aggregate[1]);
     printf("\n");
 
     free(stream);

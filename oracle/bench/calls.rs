@@ -1,7 +1,7 @@
 //! The calls of libpine_c.a, include/pine.h, beside the original's and those written by hand.
 
 use crate::{
-    by_hand_calls::{self as by_hand, Outcome},
+    by_hand_calls::{self as by_hand, Outcome, Param},
     fields, row,
     stream::{give, Given},
     way, words, Random, Row, Title, Way, Ways, FRAC_BITS, SCALE,
@@ -18,11 +18,6 @@ use prio_draft09::{
     vdaf::{xof::Seed, Aggregatable, Aggregator, Collector},
 };
 use std::{any::Any, cell::Cell, rc::Rc};
-
-/// The seven inputs: n, d, f, c, e, T and K.
-#[repr(C)]
-#[derive(Clone, Copy)]
-struct Param([u64; 7]);
 
 #[repr(C)]
 #[derive(Debug, PartialEq)]
@@ -141,8 +136,11 @@ fn chunks(d: usize, t: usize) -> [(usize, usize); 2] {
     [(1, 1), (root - root % 10, d.isqrt())]
 }
 
+/// The multiplier of the original.
+const ALPHA: [u16; 2] = [87, 10];
+
 fn param(d: usize, (c, e): (usize, usize), t: usize) -> Param {
-    Param([NORM_BOUND, d as u64, FRAC_BITS, c as u64, e as u64, t as u64, t as u64])
+    Param([NORM_BOUND, d as u64, FRAC_BITS, c as u64, e as u64, t as u64, t as u64], ALPHA)
 }
 
 fn title(name: &str, d: usize, of: &'static str, bytes: usize) -> Title {
@@ -194,7 +192,7 @@ fn encoding(s: &Report) -> Encoding {
 
 fn encode_by_hand(w: &mut Encoding) -> Answer {
     let Report { param, gradient, stream } = &w.report;
-    answer(&by_hand::encode(param.0, gradient, stream, &mut w.measurement, &mut w.results))
+    answer(&by_hand::encode(*param, gradient, stream, &mut w.measurement, &mut w.results))
 }
 
 fn encode_ours(w: &mut Encoding) -> Answer {
@@ -273,7 +271,7 @@ fn tests_ours(w: &mut Tests) -> Answer {
 }
 
 fn tests_by_hand(w: &mut Tests) -> Answer {
-    answer(&by_hand::run_wr_tests(w.param.0, &w.gradient, &w.stream, &mut w.results))
+    answer(&by_hand::run_wr_tests(w.param, &w.gradient, &w.stream, &mut w.results))
 }
 
 fn test_results(w: Tests, answer: Answer) -> Vec<u64> {
@@ -431,7 +429,7 @@ fn valid(d: usize, t: usize, (c, e): (usize, usize), num_shares: u64) -> Row {
             let (full, joint_rand) = (&w.full, &w.joint_rand);
             pine_valid(w.param, w.num_shares, full.as_ptr(), full.len(), joint_rand.as_ptr(), joint_rand.len())
         },
-        |w| by_hand::valid(w.param.0, w.num_shares, &w.full, &w.joint_rand),
+        |w| by_hand::valid(w.param, w.num_shares, &w.full, &w.joint_rand),
     );
     row(title, move |r| fresh_full(r, param(d, (c, e), t), num_shares), ways)
 }
@@ -442,7 +440,7 @@ fn valid_sq_norm_equal(d: usize, (c, e): (usize, usize), num_shares: u64) -> Row
     let ways = circuit_ways(
         |pine| &pine.flp_sq_norm_equal,
         |w| unsafe { pine_valid_sq_norm_equal(w.param, w.num_shares, w.full.as_ptr(), w.full.len()) },
-        |w| by_hand::valid_sq_norm_equal(w.param.0, w.num_shares, &w.full),
+        |w| by_hand::valid_sq_norm_equal(w.param, w.num_shares, &w.full),
     );
     row(title, move |r| fresh_full(r, param(d, (c, e), USUAL_TESTS), num_shares), ways)
 }
@@ -463,7 +461,7 @@ fn part(name: &str, d: usize, call: PartCall, which: usize) -> Row {
     );
     let by_hand = way(
         Full::clone,
-        move |w: &mut Full| by_hand::part(w.param.0, &w.full, which),
+        move |w: &mut Full| by_hand::part(w.param, &w.full, which),
         |_, part| part.unwrap().map(|x| x as u64).to_vec(),
     );
     let fresh = move |r: &mut Random| fresh_full(r, param(d, (1, 1), USUAL_TESTS), 2);
@@ -503,13 +501,13 @@ fn empty_aggregate(d: usize) -> Row {
         |w: &mut Two| unsafe { pine_empty_aggregate(w.param, w.left.as_mut_ptr(), w.left.len()) },
         left,
     );
-    let by_hand = way(Two::clone, |w: &mut Two| answer(&by_hand::empty_aggregate(w.param.0, &mut w.left)), left);
+    let by_hand = way(Two::clone, |w: &mut Two| answer(&by_hand::empty_aggregate(w.param, &mut w.left)), left);
     let title = title("empty_aggregate", d, "element", 8 * d);
     row(title, move |r| two(r, d), Ways { original: Some(original), ours, by_hand: Some(by_hand) })
 }
 
 type Adding = unsafe extern "C" fn(Param, *mut u64, usize, *const u64, usize) -> Answer;
-type AddingByHand = fn([u64; 7], &mut [u64], &[u64]) -> Outcome<()>;
+type AddingByHand = fn(Param, &mut [u64], &[u64]) -> Outcome<()>;
 type OriginalAdding = fn(&mut PineVec<Field64>, &PineVec<Field64>);
 
 fn original_adding(call: OriginalAdding) -> Way<Two> {
@@ -526,7 +524,7 @@ fn adding(name: &str, d: usize, original: Option<OriginalAdding>, call: Adding, 
         move |w: &mut Two| unsafe { call(w.param, w.left.as_mut_ptr(), w.left.len(), w.right.as_ptr(), w.right.len()) },
         left,
     );
-    let by_hand = way(Two::clone, move |w: &mut Two| answer(&by_hand(w.param.0, &mut w.left, &w.right)), left);
+    let by_hand = way(Two::clone, move |w: &mut Two| answer(&by_hand(w.param, &mut w.left, &w.right)), left);
     let title = title(name, d, "element", 16 * d);
     let original = original.map(original_adding);
     row(title, move |r| two(r, d), Ways { original, ours, by_hand: Some(by_hand) })
@@ -562,7 +560,7 @@ fn unshard(d: usize) -> Row {
     );
     let by_hand = way(
         ready,
-        |(w, decoded)| answer(&by_hand::unshard(w.param.0, &w.left, &w.right, decoded)),
+        |(w, decoded)| answer(&by_hand::unshard(w.param, &w.left, &w.right, decoded)),
         |(_, decoded), answer| bits(decoded, answer),
     );
     let title = title("unshard", d, "element", 24 * d);
@@ -605,7 +603,7 @@ fn field_to_f64() -> Row {
 fn any_param(random: &mut Random) -> Param {
     let mut up_to = |limit: u64| 1 + random.next() % limit;
     let (n, d, f, c, e, t) = (up_to(3_037_000_499), up_to(65536), up_to(30), up_to(65536), up_to(65536), up_to(256));
-    Param([n, d, f, c, e, t, up_to(t)])
+    Param([n, d, f, c, e, t, up_to(t)], ALPHA)
 }
 
 fn derive() -> Row {

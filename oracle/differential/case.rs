@@ -160,6 +160,10 @@ fn write_row(to: &mut Formatter, row: &Row) -> Result {
 /// The line of oracle/README.md.
 impl Display for Case {
     fn fmt(&self, to: &mut Formatter) -> Result {
+        if !self.param.is_standard() {
+            let [above, below] = self.param.alpha;
+            write!(to, "with {above} {below} 0 0 ")?;
+        }
         write!(to, "{}", self.call.word())?;
         match self.call {
             Call::F64ToField => return write!(to, " {} {:016x}", self.param.f, self.number),

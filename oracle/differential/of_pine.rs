@@ -5,8 +5,8 @@ pub mod opened {
     use crate::xofs::ChosenXof;
     use prio_draft09::{flp::Type, vdaf::xof::Seed};
 
-    /// For n, d, f, c, e, T and K.
-    pub fn new(inputs: [u64; 7]) -> Result<Pine64, VdafError> {
+    /// For n, d, f, c, e, T and K, with another test bound than its own if one is given.
+    pub fn new(inputs: [u64; 7], bound: Option<u64>) -> Result<Pine64, VdafError> {
         let [norm_bound, dimension, frac_bits, chunk_len, chunk_len_sq_norm_equal, num_wr_tests, num_wr_successes] =
             inputs.map(|x| x as usize);
         let param = PineParam {
@@ -20,7 +20,23 @@ pub mod opened {
             num_wr_tests,
             num_wr_successes,
         };
-        Pine::new(&param, 0xffff_ffff)
+        let mut pine = Pine::new(&param, 0xffff_ffff)?;
+        if let Some(bound) = bound {
+            set_bound(&mut pine, bound);
+        }
+        Ok(pine)
+    }
+
+    /// The bound, and what `Pine::new` derives from it.
+    fn set_bound(pine: &mut Pine64, bound: u64) {
+        let t = &mut pine.flp;
+        t.wr_test_bound = Field64::from(bound);
+        t.wr_test_bits = bits(2 * bound - 1);
+        t.bit_checked_len = 2 * t.sq_norm_bits + (1 + t.wr_test_bits) * t.num_wr_tests;
+        pine.encoded_input_len = t.dimension + t.bit_checked_len;
+        t.input_len = pine.encoded_input_len + t.num_wr_tests;
+        t.gadget_calls = chunk_count(t.chunk_len, t.bit_checked_len) + chunk_count(t.chunk_len, t.num_wr_tests);
+        pine.flp_sq_norm_equal.input_len = t.input_len;
     }
 
     fn scale(frac_bits: usize) -> f64 {

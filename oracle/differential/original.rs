@@ -1,6 +1,10 @@
-//! The same calls of the original. What document 01 refuses is not put to it.
+//! The same calls of the original. What documents 01 and 02 refuse is not put to it. With another multiplier than its own
+//! it is given the test bound that the driver works out.
 
-use crate::case::{Call, Case, Row};
+use crate::{
+    case::{Call, Case, Row},
+    param::Sizes,
+};
 use pine_oracle::{
     pine::{opened, Pine64},
     xofs::{choose_stream, ChosenXof},
@@ -129,7 +133,8 @@ fn answer(case: &Case) -> Outcome<Given> {
         Call::FieldToF64 => return values(vec![opened::field_to_f64(Field64::from(number), f)?.to_bits()]),
         _ => (),
     }
-    let pine = opened::new(case.param.inputs())?;
+    let bound = (!case.param.is_standard()).then(|| Sizes::of(&case.param).test_bound as u64);
+    let pine = opened::new(case.param.inputs(), bound)?;
     match (case.call, &case.rows[..]) {
         (Call::CheckParam, []) => values(vec![]),
         (Call::Derive, []) => values(opened::record(&pine)),

@@ -1,4 +1,4 @@
-//! The seven inputs, their limits, and what document 01 derives from them.
+//! The inputs, their limits, and what documents 01 and 02 derive from them.
 
 /// p.
 pub const P: u64 = 0xffff_ffff_0000_0001;
@@ -11,13 +11,17 @@ pub const D: Limits = (1, 65536);
 pub const F: Limits = (0, 30);
 pub const CHUNK: Limits = (1, 65536);
 pub const T: Limits = (1, 256);
+pub const ALPHA: Limits = (1, 65535);
 pub const SHARES: Limits = (1, 255);
+
+/// The multiplier of the original.
+pub const STANDARD: [u16; 2] = [87, 10];
 
 pub fn within(x: u64, (low, high): Limits) -> bool {
     low <= x && x <= high
 }
 
-/// n, d, f, c, e, T and K of the papers; the layout is that of PineParam in include/pine.h.
+/// n, d, f, c, e, T and K of the papers, and the multiplier; the layout is that of PineParam in include/pine.h.
 #[repr(C)]
 #[derive(Clone, Copy)]
 pub struct Param {
@@ -28,11 +32,18 @@ pub struct Param {
     pub e: u64,
     pub t: u64,
     pub k: u64,
+    /// The numerator and the denominator.
+    pub alpha: [u16; 2],
 }
 
 impl Param {
+    /// Those that the original has.
     pub fn inputs(&self) -> [u64; 7] {
         [self.n, self.d, self.f, self.c, self.e, self.t, self.k]
+    }
+
+    pub fn is_standard(&self) -> bool {
+        self.alpha == STANDARD
     }
 }
 
@@ -57,11 +68,12 @@ pub struct Sizes {
 }
 
 impl Sizes {
-    /// The inputs are within their limits, or not far beyond.
+    /// The inputs are within their limits, or not far beyond; a denominator of 0 counts as 1.
     pub fn of(param: &Param) -> Sizes {
         let (n, d, t) = (u128::from(param.n), param.d as usize, param.t as usize);
         let bits = digits(n * n);
-        let test_bound = ((87 * n).div_ceil(10) + 1).next_power_of_two();
+        let [above, below] = param.alpha.map(u128::from);
+        let test_bound = ((above * n).div_ceil(below.max(1)) + 1).next_power_of_two();
         let test_bits = digits(2 * test_bound - 1);
         let checked = 2 * bits + (1 + test_bits) * t;
         let per_test = d.div_ceil(4);

@@ -1,4 +1,4 @@
-//! What a call must answer, by document 01 alone.
+//! What a call must answer, by documents 01 and 02 alone.
 
 use crate::{
     case::{Call, Case, Row},
@@ -38,13 +38,14 @@ fn rule_4(param: &Param) -> Option<Answer> {
     rule(4, !within(param.f, F))
 }
 
-fn rules_1_to_6(param: &Param) -> Option<Answer> {
+fn rules_on_inputs(param: &Param) -> Option<Answer> {
     rule(1, param.k > param.t)
         .or(rule(2, !within(param.n, N)))
         .or(rule(3, !within(param.d, D)))
         .or(rule_4(param))
         .or(rule(5, !within(param.c, CHUNK) || !within(param.e, CHUNK)))
         .or(rule(6, !within(param.t, T)))
+        .or(rule(19, param.alpha.contains(&0)))
 }
 
 /// The lengths that the rows must have, but for the gradient of doubles.
@@ -104,7 +105,7 @@ pub fn answer(case: &Case) -> Answer {
             whole::coordinate_rule(case.number, case.param.f).map(|number| Answer { number, place: 0 })
         }),
         Call::FieldToF64 => rule_4(&case.param).or(rule(12, case.number >= P)),
-        _ => rules_1_to_6(&case.param)
+        _ => rules_on_inputs(&case.param)
             .or_else(|| rule_7(case))
             .or_else(|| rule_13(case))
             .or_else(|| rule_12(case))

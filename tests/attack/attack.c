@@ -48,7 +48,8 @@ static const char *const names[KINDS] = {
     "valid_sq_norm_equal", "gradient_part", "checked_part", "results_part", "empty_aggregate", "accumulate", "merge",
     "subtract", "unmerge", "unshard"
 };
-enum { LAST_RULE = PINE_FLOOR }; /* 14 to 16 are none */
+enum { LAST_RULE = PINE_ALPHA };
+static int is_rule(uint64_t n) { return n <= PINE_NUM_SHARES || n == PINE_FLOOR || n == PINE_ALPHA; }
 static unsigned long long seed, made, counts[KINDS][LAST_RULE + 1], reports;
 static volatile enum Kind kind;
 
@@ -108,6 +109,10 @@ static double any_double(void) {
     return from_bits(sign | exponent << 52 | digits);
 }
 
+static uint16_t alpha_number(void) {
+    return (uint16_t)(once_in(3) ? 1 + below(8) : once_in(3) ? UINT16_MAX - below(2) : 1 + below(UINT16_MAX));
+}
+
 static PineParam param_in_order(void) {
     PineParam p;
     p.norm_bound = once_in(3) ? 1 + below(8) : once_in(3) ? 1 + below(PINE_MAX_NORM_BOUND) : UINT64_C(1) << below(31);
@@ -117,14 +122,21 @@ static PineParam param_in_order(void) {
     p.chunk_len_sq_norm_equal = once_in(8) ? PINE_MAX_CHUNK_LEN - below(2) : 1 + below(40);
     p.num_wr_tests = once_in(64) ? PINE_MAX_NUM_WR_TESTS - below(2) : 1 + below(12);
     p.num_wr_successes = once_in(2) ? p.num_wr_tests : below(p.num_wr_tests + 1);
+    int standard = once_in(2);
+    p.alpha_numerator = standard ? 87 : alpha_number();
+    p.alpha_denominator = standard ? 10 : alpha_number();
     return p;
 }
 
 static PineParam any_param(void) {
     PineParam p = param_in_order();
     while (once_in(12)) {
-        uint64_t x = any_number();
-        memcpy((char *)&p + 8 * below(7), &x, 8);
+        uint64_t x = any_number(), at = below(9);
+        if (at < 7) {
+            memcpy((char *)&p + 8 * at, &x, 8);
+        } else {
+            *(at == 7 ? &p.alpha_numerator : &p.alpha_denominator) = once_in(2) ? 0 : (uint16_t)x;
+        }
     }
     return p;
 }
@@ -260,7 +272,7 @@ static void *pointer(void *row, size_t len) { return len == 0 && once_in(2) ? NU
 /* ---- checks */
 
 static void count(PineAnswer a) {
-    if (a.number > LAST_RULE || (a.number > 13 && a.number < 17) || (a.number == 0 && a.place != 0)) {
+    if (!is_rule(a.number) || (a.number == 0 && a.place != 0)) {
         fail("an answer that is none");
     }
     counts[kind][a.number]++;
@@ -463,6 +475,12 @@ static void step(void) {
                     fail("gives a length beside a refusal");
                 }
             }
+        } else {
+            uint64_t b = pine_wr_test_bound(w.pine), den = p.alpha_denominator;
+            uint64_t least = (p.alpha_numerator * p.norm_bound + (den - 1)) / den + 1;
+            if (b < least || b / 2 >= least || (b & (b - 1)) != 0) {
+                fail("gives another bound than the smallest power of two");
+            }
         }
         break;
     }
@@ -655,14 +673,18 @@ int main(int argc, char **argv) {
         step();
     }
     printf("%-26s %10s", "call", "accepted");
-    for (int r = 1; r <= LAST_RULE; r += r == 13 ? 4 : 1) {
-        printf(" %8d", r);
+    for (unsigned r = 1; r <= LAST_RULE; r++) {
+        if (is_rule(r)) {
+            printf(" %8u", r);
+        }
     }
     printf("\n");
     for (int k = 0; k < KINDS; k++) {
         printf("%-26s", names[k]);
-        for (int r = 0; r <= LAST_RULE; r += r == 13 ? 4 : 1) {
-            printf(r == 0 ? " %10llu" : " %8llu", counts[k][r]);
+        for (unsigned r = 0; r <= LAST_RULE; r++) {
+            if (is_rule(r)) {
+                printf(r == 0 ? " %10llu" : " %8llu", counts[k][r]);
+            }
         }
         printf("\n");
     }

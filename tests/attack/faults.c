@@ -10,6 +10,11 @@ PineAnswer __wrap_pine_subtract(PineParam p, uint64_t *g, size_t gn, const uint6
 PineAnswer __real_pine_empty_aggregate(PineParam p, uint64_t *r, size_t n);
 PineAnswer __wrap_pine_empty_aggregate(PineParam p, uint64_t *r, size_t n);
 
+PineAnswer __real_pine_check_param(PineParam p);
+PineAnswer __wrap_pine_check_param(PineParam p);
+PineDerived __real_pine_derive(PineParam p);
+PineDerived __wrap_pine_derive(PineParam p);
+
 /* 1: reads past a row; 2: reads before a row; 3: decodes what the row held before */
 PineAnswer __wrap_pine_unshard(PineParam p, const uint64_t *l, size_t ln, const uint64_t *r, size_t rn, double *o, size_t on) {
     if (FAULT == 1 && ln != 0) {
@@ -56,4 +61,23 @@ PineAnswer __wrap_pine_empty_aggregate(PineParam p, uint64_t *r, size_t n) {
 /* 9: adds what it is to take out */
 PineAnswer __wrap_pine_subtract(PineParam p, uint64_t *g, size_t gn, const uint64_t *s, size_t sn) {
     return FAULT == 9 ? __real_pine_accumulate(p, g, gn, s, sn) : __real_pine_subtract(p, g, gn, s, sn);
+}
+
+/* 10: lets a denominator of 0 pass */
+PineAnswer __wrap_pine_check_param(PineParam p) {
+    if (FAULT == 10 && p.alpha_denominator == 0) {
+        p.alpha_denominator = 1;
+    }
+    return __real_pine_check_param(p);
+}
+
+/* 11: a bound that is always 87 / 10 of the norm bound */
+PineDerived __wrap_pine_derive(PineParam p) {
+    PineDerived v = __real_pine_derive(p);
+    if (FAULT == 11 && v.answer.number == 0) {
+        p.alpha_numerator = 87;
+        p.alpha_denominator = 10;
+        v = __real_pine_derive(p);
+    }
+    return v;
 }

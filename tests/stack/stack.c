@@ -104,8 +104,7 @@ int main(void) {
         for (size_t l = 0; l < sizeof numbers_of_tests / sizeof *numbers_of_tests; l++) {
             for (int wrong = 0; wrong < 4; wrong++) {
                 uint64_t t = numbers_of_tests[l];
-                PineParam p = {1u << 16, dimensions[k], 8, 1 + k, 7, t, t};
-                param = p;
+                param = pine_param_standard(1u << 16, dimensions[k], 8, 1 + k, 7, t, t);
                 derived = pine_derive(param);
                 if (derived.answer.number != 0) {
                     continue;

@@ -45,6 +45,8 @@ pub enum Rule {
     /// The floor of a coordinate is beyond (p - 1) / 2 either way. The place is its index; of this
     /// rule and [`Rule::Coordinate`] the lower index is answered.
     Floor = 17,
+    /// alpha_numerator or alpha_denominator is 0.
+    Alpha = 19,
 }
 
 impl Rule {
@@ -73,6 +75,7 @@ impl Error {
             12 => Rule::Element,
             13 => Rule::NumShares,
             17 => Rule::Floor,
+            19 => Rule::Alpha,
             // no call of the archive that this crate was written for answers another number
             _ => unreachable!("rule {number}: the archive is of another version"),
         };
@@ -98,6 +101,7 @@ impl fmt::Display for Error {
             Rule::Element => write!(f, "element {place} of the rows is not below p"),
             Rule::NumShares => write!(f, "num_shares is not from 1 to 255"),
             Rule::Floor => write!(f, "the floor of coordinate {place} is beyond (p - 1) / 2"),
+            Rule::Alpha => write!(f, "alpha_numerator or alpha_denominator is 0"),
         }?;
         write!(f, " (rule {})", self.rule.number())
     }

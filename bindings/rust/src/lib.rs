@@ -13,15 +13,8 @@
 //! # fn main() -> Result<(), jihmeto_pine::Error> {
 //! use jihmeto_pine::{derive, encode_with_wr_joint_rand, PineParam};
 //!
-//! let param = PineParam {
-//!     norm_bound: 1 << 12,
-//!     dimension: 2,
-//!     frac_bits: 8,
-//!     chunk_len: 16,
-//!     chunk_len_sq_norm_equal: 2,
-//!     num_wr_tests: 10,
-//!     num_wr_successes: 10,
-//! };
+//! // norm_bound, dimension, frac_bits, both chunk lengths, num_wr_tests, num_wr_successes
+//! let param = PineParam::standard(1 << 12, 2, 8, 16, 2, 10, 10);
 //! let derived = derive(param)?;
 //! let stream = vec![0x1b; derived.stream_len as usize]; // random bytes, of a real report
 //! let mut measurement = vec![0; derived.pine.encoded_input_len as usize];
@@ -48,7 +41,23 @@ pub const FIELD_MODULUS: u64 = 0xffff_ffff_0000_0001;
 /// How many elements of joint randomness [`valid`] takes: r1, r2, r3.
 pub const JOINT_RAND_LEN: usize = 3;
 
-/// The seven inputs.
+/// The inputs. Begin from [`PineParam::standard`].
+///
+/// The bound b of the wraparound tests is the smallest power of two not below ceil(alpha · norm_bound) + 1, alpha being a
+/// fraction of two inputs. A result from -b + 1 to b is in range, so a smaller b refuses more streams by
+/// [`Rule::WrTest`], and a larger one lets more gradients pass whose squared norm has wrapped around p; how many, no
+/// proof says. Each time b doubles, a measurement has num_wr_tests elements more.
+///
+/// ```
+/// use jihmeto_pine::{derive, PineParam};
+/// # fn main() -> Result<(), jihmeto_pine::Error> {
+/// let param = PineParam::standard(1 << 12, 2, 8, 16, 2, 10, 10);
+/// let tighter = PineParam { alpha_numerator: 3, alpha_denominator: 2, ..param };
+/// assert_eq!(derive(param)?.pine.wr_test_bound(), 1 << 16);
+/// assert_eq!(derive(tighter)?.pine.wr_test_bound(), 1 << 13);
+/// # Ok(())
+/// # }
+/// ```
 #[repr(C)]
 #[derive(Clone, Copy, Debug, PartialEq, Eq, Hash)]
 pub struct PineParam {
@@ -66,6 +75,35 @@ pub struct PineParam {
     pub num_wr_tests: u64,
     /// How many of them must succeed, to num_wr_tests.
     pub num_wr_successes: u64,
+    /// Of alpha, from 1.
+    pub alpha_numerator: u16,
+    /// Of alpha, from 1.
+    pub alpha_denominator: u16,
+}
+
+impl PineParam {
+    /// The inputs with the original's alpha, 87 / 10. With it the calls equal the original, which has no other.
+    pub const fn standard(
+        norm_bound: u64,
+        dimension: u64,
+        frac_bits: u64,
+        chunk_len: u64,
+        chunk_len_sq_norm_equal: u64,
+        num_wr_tests: u64,
+        num_wr_successes: u64,
+    ) -> PineParam {
+        PineParam {
+            norm_bound,
+            dimension,
+            frac_bits,
+            chunk_len,
+            chunk_len_sq_norm_equal,
+            num_wr_tests,
+            num_wr_successes,
+            alpha_numerator: 87,
+            alpha_denominator: 10,
+        }
+    }
 }
 
 /// The derived record: the inputs that later calls read, and what follows from them.
@@ -153,13 +191,13 @@ fn result(answer: Answer) -> Result<(), Error> {
     Error::of(answer.number, answer.place)
 }
 
-/// Tests the inputs: rules 1 to 6.
+/// Tests the inputs: rules 1 to 6, 19.
 pub fn check_param(param: PineParam) -> Result<(), Error> {
     // SAFETY: numbers by value.
     result(unsafe { ffi::pine_check_param(param) })
 }
 
-/// The record and every length. Rules 1 to 6.
+/// The record and every length. Rules 1 to 6, 19.
 pub fn derive(param: PineParam) -> Result<Derived, Error> {
     // SAFETY: numbers by value.
     let derived = unsafe { ffi::pine_derive(param) };
@@ -190,8 +228,8 @@ pub fn field_to_f64(y: u64, frac_bits: u64) -> Result<f64, Error> {
 }
 
 /// Encodes a gradient, with a stream of random bytes (`stream_len`), into a measurement
-/// (`encoded_input_len`) and the results of the wraparound tests (`num_wr_tests`). Rules 1 to 7 (7:
-/// rows 2 to 4), 8 and 17, 9, 10, 11.
+/// (`encoded_input_len`) and the results of the wraparound tests (`num_wr_tests`). Rules 1 to 6, 19, 7
+/// (rows 2 to 4), 8 and 17, 9, 10, 11.
 pub fn encode_with_wr_joint_rand(
     param: PineParam,
     gradient: &[f64],
@@ -216,7 +254,7 @@ pub fn encode_with_wr_joint_rand(
 }
 
 /// The wraparound tests alone, on a share of the gradient's elements, with the report's stream. Rules 1
-/// to 7, 12.
+/// to 6, 19, 7, 12.
 pub fn run_wr_tests(
     param: PineParam,
     gradient: &[u64],
@@ -246,7 +284,7 @@ fn circuit(given: ffi::Circuit) -> Result<Circuit, Error> {
 }
 
 /// `PineType` on a full vector (`input_len`: a measurement, then its results), with joint randomness
-/// ([`JOINT_RAND_LEN`]). Rules 1 to 7, 13, 12.
+/// ([`JOINT_RAND_LEN`]). Rules 1 to 6, 19, 7, 13, 12.
 pub fn valid(
     param: PineParam,
     num_shares: u64,
@@ -266,7 +304,7 @@ pub fn valid(
     })
 }
 
-/// `PineTypeSquaredNormEqual` on a full vector. Rules 1 to 7, 13, 12.
+/// `PineTypeSquaredNormEqual` on a full vector. Rules 1 to 6, 19, 7, 13, 12.
 pub fn valid_sq_norm_equal(
     param: PineParam,
     num_shares: u64,
@@ -282,7 +320,7 @@ fn part(full: &[u64], given: ffi::Part) -> Result<&[u64], Error> {
     Ok(&full[start..start + given.len as usize])
 }
 
-/// The gradient's elements of a full vector. Rules 1 to 7, 12.
+/// The gradient's elements of a full vector. Rules 1 to 6, 19, 7, 12.
 pub fn gradient_part(param: PineParam, full: &[u64]) -> Result<&[u64], Error> {
     // SAFETY: the pointer is the slice's own, with its length.
     part(full, unsafe {
@@ -290,7 +328,7 @@ pub fn gradient_part(param: PineParam, full: &[u64]) -> Result<&[u64], Error> {
     })
 }
 
-/// The checked elements of a full vector. Rules 1 to 7, 12.
+/// The checked elements of a full vector. Rules 1 to 6, 19, 7, 12.
 pub fn checked_part(param: PineParam, full: &[u64]) -> Result<&[u64], Error> {
     // SAFETY: the pointer is the slice's own, with its length.
     part(full, unsafe {
@@ -298,7 +336,7 @@ pub fn checked_part(param: PineParam, full: &[u64]) -> Result<&[u64], Error> {
     })
 }
 
-/// The results of a full vector. Rules 1 to 7, 12.
+/// The results of a full vector. Rules 1 to 6, 19, 7, 12.
 pub fn results_part(param: PineParam, full: &[u64]) -> Result<&[u64], Error> {
     // SAFETY: the pointer is the slice's own, with its length.
     part(full, unsafe {
@@ -306,13 +344,13 @@ pub fn results_part(param: PineParam, full: &[u64]) -> Result<&[u64], Error> {
     })
 }
 
-/// Makes the aggregate of no shares. Rules 1 to 7.
+/// Makes the aggregate of no shares. Rules 1 to 6, 19, 7.
 pub fn empty_aggregate(param: PineParam, row: &mut [u64]) -> Result<(), Error> {
     // SAFETY: the pointer is the slice's own, with its length.
     result(unsafe { ffi::pine_empty_aggregate(param, row.as_mut_ptr(), row.len()) })
 }
 
-/// Adds a share to an aggregate. Rules 1 to 7, 12.
+/// Adds a share to an aggregate. Rules 1 to 6, 19, 7, 12.
 pub fn accumulate(param: PineParam, agg: &mut [u64], share: &[u64]) -> Result<(), Error> {
     // SAFETY: each pointer is a slice's own, with that slice's length; the borrows keep them apart.
     result(unsafe {
@@ -326,7 +364,7 @@ pub fn accumulate(param: PineParam, agg: &mut [u64], share: &[u64]) -> Result<()
     })
 }
 
-/// Adds another aggregate to an aggregate. Rules 1 to 7, 12.
+/// Adds another aggregate to an aggregate. Rules 1 to 6, 19, 7, 12.
 pub fn merge(param: PineParam, agg: &mut [u64], other: &[u64]) -> Result<(), Error> {
     // SAFETY: each pointer is a slice's own, with that slice's length; the borrows keep them apart.
     result(unsafe {
@@ -340,7 +378,7 @@ pub fn merge(param: PineParam, agg: &mut [u64], other: &[u64]) -> Result<(), Err
     })
 }
 
-/// Takes a share out of an aggregate, whether or not it was added. Rules 1 to 7, 12.
+/// Takes a share out of an aggregate, whether or not it was added. Rules 1 to 6, 19, 7, 12.
 pub fn subtract(param: PineParam, agg: &mut [u64], share: &[u64]) -> Result<(), Error> {
     // SAFETY: each pointer is a slice's own, with that slice's length; the borrows keep them apart.
     result(unsafe {
@@ -354,7 +392,7 @@ pub fn subtract(param: PineParam, agg: &mut [u64], share: &[u64]) -> Result<(), 
     })
 }
 
-/// Takes another aggregate out of an aggregate. Rules 1 to 7, 12.
+/// Takes another aggregate out of an aggregate. Rules 1 to 6, 19, 7, 12.
 pub fn unmerge(param: PineParam, agg: &mut [u64], other: &[u64]) -> Result<(), Error> {
     // SAFETY: each pointer is a slice's own, with that slice's length; the borrows keep them apart.
     result(unsafe {
@@ -368,7 +406,7 @@ pub fn unmerge(param: PineParam, agg: &mut [u64], other: &[u64]) -> Result<(), E
     })
 }
 
-/// Adds two aggregates and writes the sums as doubles. Rules 1 to 7, 12.
+/// Adds two aggregates and writes the sums as doubles. Rules 1 to 6, 19, 7, 12.
 pub fn unshard(
     param: PineParam,
     left: &[u64],

@@ -4,14 +4,14 @@ use jihmeto_pine::*;
 const P: u64 = FIELD_MODULUS;
 
 fn param(n: u64, d: u64, f: u64, t: u64, k: u64) -> PineParam {
+    PineParam::standard(n, d, f, 1, 1, t, k)
+}
+
+fn with_alpha(alpha_numerator: u16, alpha_denominator: u16, param: PineParam) -> PineParam {
     PineParam {
-        norm_bound: n,
-        dimension: d,
-        frac_bits: f,
-        chunk_len: 1,
-        chunk_len_sq_norm_equal: 1,
-        num_wr_tests: t,
-        num_wr_successes: k,
+        alpha_numerator,
+        alpha_denominator,
+        ..param
     }
 }
 
@@ -115,6 +115,67 @@ fn encoding() {
     assert_eq!(answer, Ok(()));
     assert_eq!(m, [1, 0, 0, 0, 1, 0, 0, 0, 0, 0, 1, 1, 0, 1, 1, 1, 0, 1]);
     assert_eq!(r, [1, P - 1]);
+}
+
+#[test]
+fn other_multipliers() {
+    let small = param(1, 4, 0, 2, 2);
+    for (numerator, denominator) in [(0, 10), (87, 0), (0, 0)] {
+        let zero = with_alpha(numerator, denominator, small);
+        refused(check_param(zero), Rule::Alpha, 0);
+        refused(derive(zero), Rule::Alpha, 0);
+        // after 6, before 7
+        refused(
+            check_param(PineParam {
+                num_wr_tests: 257,
+                ..zero
+            }),
+            Rule::NumWrTests,
+            0,
+        );
+        let mut row = [7; 3];
+        refused(empty_aggregate(zero, &mut row), Rule::Alpha, 0);
+        assert_eq!(row, [7; 3]);
+    }
+    // the least, the largest, a remainder, and products at a power of two and one below
+    for (numerator, denominator, n, bound) in [
+        (1, 65535, 1, 2),
+        (1, 1, 1, 2),
+        (65535, 1, 3037000499, 1 << 48),
+        (2, 3, 10, 8),
+        (2, 3, 11, 16),
+        (8, 1, 1024, 16384),
+        (1, 1, 8191, 8192),
+    ] {
+        let p = with_alpha(numerator, denominator, param(n, 4, 0, 2, 2));
+        let record = derive(p).unwrap().pine;
+        assert_eq!(record.wr_test_bound(), bound);
+        assert_eq!(record.wr_test_bits, 1 + u64::from(bound.trailing_zeros()));
+        assert_eq!(
+            record.encoded_input_len,
+            4 + 2 * record.sq_norm_bits + (1 + record.wr_test_bits) * 2
+        );
+    }
+    // b is 2: the results 1 and -1 are in range
+    let tight = with_alpha(1, 1, param(1, 4, 0, 2, 2));
+    let (mut measurement, mut results) = ([7; 12], [7; 2]);
+    let gradient = [1.0, 0.0, 0.0, 0.0];
+    assert_eq!(
+        encode_with_wr_joint_rand(tight, &gradient, &[3, 0], &mut measurement, &mut results),
+        Ok(())
+    );
+    assert_eq!(measurement, [1, 0, 0, 0, 1, 0, 0, 1, 1, 0, 0, 1]);
+    assert_eq!(results, [1, P - 1]);
+    // b is 2: 0 is in range, -4 is not
+    let half = with_alpha(1, 2, param(2, 4, 0, 2, 2));
+    let gradient = [1.0; 4];
+    let (mut measurement, mut results) = ([7; 16], [7; 2]);
+    refused(
+        encode_with_wr_joint_rand(half, &gradient, &[0x0f, 0], &mut measurement, &mut results),
+        Rule::WrTest,
+        1,
+    );
+    assert_eq!((measurement, results), ([7; 16], [7; 2]));
 }
 
 #[test]
@@ -255,6 +316,8 @@ fn reports_cut_in_two() {
         let p = PineParam {
             chunk_len: 1 + draw.next() % 9,
             chunk_len_sq_norm_equal: 1 + draw.next() % 9,
+            alpha_numerator: 8 + (draw.next() % 60_000) as u16,
+            alpha_denominator: 1 + (draw.next() % 2) as u16,
             ..param(1 << 20, d, 10, 20, 15)
         };
         let d = d as usize;

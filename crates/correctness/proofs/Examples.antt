@@ -16,7 +16,7 @@ use Rattle.rows.proofs.Elements.{elements-below}
 use Rattle.field64.specs.Field.{p64}
 use Rattle.doubles.specs.Doubles.{modP, floorDiv, floorOf, plusZero}
 use Rattle.pine.specs.declared.PineParam.{PineParam}
-use Rattle.pine.specs.Param.{Field64, paramRules, paramAnswer}
+use Rattle.pine.specs.Param.{Field64, paramRules, paramAnswer, standard}
 use Rattle.rows.specs.Rows.{addRows, elementsRule}
 use Rattle.vdaf.specs.Aggregates.{emptyAnswer, emptyOf, accumulateAnswer, accumulateOf, subtractOf, unshardOf}
 use Rattle.correctness.specs.Tally.{eqRow, count, Tally, nothing, Call, Aggregates, step, run, Begun, FieldRow, Each, Joined}
@@ -28,7 +28,7 @@ use Rattle.correctness.proofs.Undo.{withdrawal}
 use Rattle.rules.specs.declared.Answer.{Answer}
 
 abbrev with-dimension : ℕ → PineParam
-with-dimension d = record { «norm_bound» = 1; dimension = d; «frac_bits» = 0; «chunk_len» = 1; «chunk_len_sq_norm_equal» = 1; «num_wr_tests» = 1; «num_wr_successes» = 1 }
+with-dimension d = standard 1 d 0 1 1 1 1
 
 abbrev start : Aggregates
 start k = record { row = 0 ∷ 0 ∷ []; tally = nothing }

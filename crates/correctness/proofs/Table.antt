@@ -97,4 +97,7 @@ table = record {
   later-test = refl;
   later-coordinate = refl;
   second-row = refl;
+  tighter = refl;
+  wide = refl;
+  no-multiplier = refl;
 }

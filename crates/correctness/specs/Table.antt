@@ -1,4 +1,4 @@
--- The worked examples of document 01, "Bench rows", that are marked P, and three rows at places other than 0, over the definitions that the contracts cite. A double is given by its bit pattern. Assumes nothing.
+-- The worked examples of document 01, "Bench rows", that are marked P, three rows at places other than 0 and three of other multipliers, over the definitions that the contracts cite. A double is given by its bit pattern. Assumes nothing.
 use Prim.Native.Nat.{ℕ, _+_, _-_, _*_, _/_, _^_, _≤_}
 use mathlib.Core.Path.{_≡_}
 use mathlib.Core.List.{[], _∷_}
@@ -11,7 +11,7 @@ use Rattle.doubles.specs.declared.Coordinate.{Coordinate}
 use Rattle.doubles.specs.declared.Decoded.{Decoded}
 use Rattle.field64.specs.Sums.{number}
 use Rattle.pine.specs.declared.PineParam.{PineParam}
-use Rattle.pine.specs.Param.{Field64}
+use Rattle.pine.specs.Param.{Field64, standard}
 use Rattle.pine.specs.Record.{wrTestBound}
 use Rattle.rows.specs.Outcome.{outcome}
 use Rattle.flp.specs.Encode.{encodeOutcome, encodeOf}
@@ -34,7 +34,21 @@ value b = record { answer = accepted; value = double b }
 
 -- f 0, and c = e = 1
 abbrev pub param : (n d T K : ℕ) → PineParam
-param n d T K = record { «norm_bound» = n; dimension = d; «frac_bits» = 0; «chunk_len» = 1; «chunk_len_sq_norm_equal» = 1; «num_wr_tests» = T; «num_wr_successes» = K }
+param n d T K = standard n d 0 1 1 T K
+
+-- the same with another multiplier
+abbrev pub multiplied : (num den n d T K : ℕ) → PineParam
+multiplied num den n d T K = record {
+  «norm_bound» = n;
+  dimension = d;
+  «frac_bits» = 0;
+  «chunk_len» = 1;
+  «chunk_len_sq_norm_equal» = 1;
+  «num_wr_tests» = T;
+  «num_wr_successes» = K;
+  «alpha_numerator» = num;
+  «alpha_denominator» = den;
+}
 
 -- 0.0, 1.0 and 4294967296.0
 abbrev pub none : Float
@@ -100,3 +114,10 @@ pub record Table : Type 0 where
   pub later-test : encodeOf Field64 (param 65536 1 3 1) (large ∷ []) (1 ∷ 3 ∷ 3 ∷ []) (replicate 133 7) (replicate 3 7) ≡ encodeOutcome (answer 11 1) (replicate 133 7) (replicate 3 7)
   pub later-coordinate : encodeOf Field64 (param 1 4 2 2) (one ∷ none ∷ double 0x7ff0_0000_0000_0000 ∷ one ∷ double 1 ∷ []) (3 ∷ 0 ∷ []) (replicate 18 7) (replicate 2 7) ≡ encodeOutcome (answer 8 2) (replicate 18 7) (replicate 2 7)
   pub second-row : accumulateOf Field64 (param 1 2 1 1) (1 ∷ 2 ∷ []) (3 ∷ p64 ∷ []) ≡ outcome (answer 12 3) (1 ∷ 2 ∷ [])
+  -- the first row of encoding with the multiplier 1 / 1: b is 2, and a test's number has 2 bits
+  pub tighter : encodeOf Field64 (multiplied 1 1 1 4 2 2) (one ∷ none ∷ none ∷ none ∷ []) (3 ∷ 0 ∷ []) (replicate 12 7) (replicate 2 7)
+      ≡ encodeOutcome accepted (1 ∷ 0 ∷ 0 ∷ 0 ∷ 1 ∷ 0 ∷ 0 ∷ 1 ∷ 1 ∷ 0 ∷ 0 ∷ 1 ∷ []) (1 ∷ (p64 - 1) ∷ [])
+  -- n 65536, gradient 4294967296.0, stream 0x03 with 65535 / 1: b is 4294967296, and the result just in range, though the squared norm has wrapped
+  pub wide : encodeOf Field64 (multiplied 65535 1 65536 1 1 1) (large ∷ []) (3 ∷ []) (replicate 101 7) (replicate 1 7) .answer ≡ accepted
+  -- a denominator of 0, and rows of other lengths: 19 before 7
+  pub no-multiplier : encodeOf Field64 (multiplied 87 0 1 4 2 2) (one ∷ none ∷ none ∷ none ∷ []) (3 ∷ []) (replicate 5 7) (replicate 2 7) ≡ encodeOutcome (answer 19 0) (replicate 5 7) (replicate 2 7)

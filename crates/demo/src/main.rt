@@ -1,5 +1,5 @@
 // A day on the farm, as a tutorial of the library: two controllers with twelve valves each, a report
-// of each valve, two servers. report.rt and filing.rt have the steps of a report, numbered 1 to 8.
+// of each valve, two servers. report.rt, filing.rt and trial.rt have the steps of a report, numbered 1 to 9.
 mod day;
 mod filing;
 mod made_up;
@@ -7,6 +7,7 @@ mod print;
 mod report;
 mod row;
 mod table;
+mod trial;
 
 // Whether the lengths of the rows here are those that the parameters derive.
 fn lengths_are_derived() -> bool {
@@ -50,6 +51,18 @@ fn withdrawal(left: &mut [u64], right: &mut [u64]) {
     table::nothing_left(left, right, 4);
 }
 
+fn trial_block() {
+    let pine = params::derive(trial::param()).pine;
+    print::text(b"a trial block with the multiplier 1/2: the tests' bound is ");
+    print::counted(pine.wr_test_bound(), b", not 4096, and a measurement has ");
+    print::counted(pine.encoded_input_len, b" elements\n");
+    print::text(b"controller 1, valve 9: ");
+    trial::print(8);
+    print::text(b"; valve 5: ");
+    trial::print(4);
+    print::text(b"\n");
+}
+
 fn sums(left: &[u64], right: &[u64]) {
     print::counted(
         day::true_keys(left, right),
@@ -71,4 +84,5 @@ fn main() {
     second_day(&mut left, &mut right);
     sums(&left, &right);
     withdrawal(&mut left, &mut right);
+    trial_block();
 }

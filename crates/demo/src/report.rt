@@ -17,17 +17,9 @@ pub const TESTS: usize = 4;
 pub const INPUT_LEN: usize = 100;
 
 // Four coordinates with 6 fractional bits. norm_bound is that of a gradient times 2^6. Of the four
-// wraparound tests all must succeed.
+// wraparound tests all must succeed. The multiplier of their bound is the standard one, 8.7.
 pub fn param() -> PineParam {
-    PineParam {
-        norm_bound: 400,
-        dimension: 4,
-        frac_bits: 6,
-        chunk_len: 8,
-        chunk_len_sq_norm_equal: 2,
-        num_wr_tests: 4,
-        num_wr_successes: 4,
-    }
+    PineParam::standard(400, 4, 6, 8, 2, 4, 4)
 }
 
 // The answer where a row is too short to hold its part.
@@ -40,12 +32,17 @@ pub fn short() -> Answer {
 
 // 1. The client encodes its gradient: the measurement is the gradient as field numbers, and the bits
 // that show its norm and its tests to be in range. Both servers know the stream of a report.
-pub fn encode(key: usize, measurement: &mut [u64], results: &mut [u64]) -> Answer {
+pub fn encode(
+    param: PineParam,
+    key: usize,
+    measurement: &mut [u64],
+    results: &mut [u64],
+) -> Answer {
     let mut gradient = [0.0f64; 4];
     let mut stream = [0u8; 4];
     made_up::gradient(key, &mut gradient);
     made_up::stream(key, &mut stream);
-    encode::encode_with_wr_joint_rand(param(), &gradient, &stream, measurement, results)
+    encode::encode_with_wr_joint_rand(param, &gradient, &stream, measurement, results)
 }
 
 // 2. The client cuts the measurement in two: the left share is random, the right one what is left. Each
@@ -98,7 +95,7 @@ pub fn client(
     left: &mut [u64],
     right: &mut [u64],
 ) -> Answer {
-    let encoded = encode(key, measurement, results);
+    let encoded = encode(param(), key, measurement, results);
     cut(key, measurement, left, right);
     encoded
 }

@@ -1,12 +1,12 @@
-// The seven inputs of PINE: the rules on them, and the record derived from them.
+// The inputs of PINE: the rules on them, and the record derived from them.
 use pine::Derived;
 use pine::PineParam;
 use pine::record::Lengths;
 use pine::record::Pine;
 use rules::Answer;
 ghost use mathlib.Core.Path.{_≡_};
-ghost use Rattle.rules.specs.Rules.{refuse, outOf};
-ghost use Rattle.pine.specs.Param.{Field64, paramAnswer};
+ghost use Rattle.rules.specs.Rules.{refuse, first, outOf};
+ghost use Rattle.pine.specs.Param.{Field64, alphaRule, paramAnswer};
 ghost use Rattle.pine.specs.Record.{deriveOf};
 
 // The rule, at place 0, that x is from 1 to max.
@@ -16,7 +16,16 @@ fn limit(x: u64, max: u64, number: u64) -> Answer
     Answer::refuse_if(rules::outside(x, max), number, 0)
 }
 
-// Rules 1 to 6.
+// Rule 19, of either number of the multiplier.
+fn check_alpha(numerator: u16, denominator: u16) -> Answer
+    ensures { λ r. ⌜ r ≡ first (alphaRule numerator) (alphaRule denominator) ⌝ }
+{
+    let above = limit(numerator as u64, 65535, rules::ALPHA);
+    let below = limit(denominator as u64, 65535, rules::ALPHA);
+    above.or(below)
+}
+
+// Rules 1 to 6, then 19.
 pub fn check_param(param: PineParam) -> Answer
     ensures { λ r. ⌜ r ≡ paramAnswer Field64 param ⌝ }
 {
@@ -31,11 +40,12 @@ pub fn check_param(param: PineParam) -> Answer
     let chunk_len = limit(param.chunk_len, 65536, rules::CHUNK_LEN);
     let chunk_len_sq_norm_equal = limit(param.chunk_len_sq_norm_equal, 65536, rules::CHUNK_LEN);
     let num_wr_tests = limit(param.num_wr_tests, 256, rules::NUM_WR_TESTS);
-    let chunks = chunk_len.or(chunk_len_sq_norm_equal.or(num_wr_tests));
+    let alpha = check_alpha(param.alpha_numerator, param.alpha_denominator);
+    let chunks = chunk_len.or(chunk_len_sq_norm_equal.or(num_wr_tests.or(alpha)));
     successes.or(norm_bound.or(dimension.or(frac_bits.or(chunks))))
 }
 
-// The record and every length, from the seven inputs.
+// The record and every length, from the inputs.
 pub fn derive(param: PineParam) -> Derived
     ensures { λ r. ⌜ r ≡ deriveOf Field64 param ⌝ }
 {

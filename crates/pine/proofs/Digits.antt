@@ -2,7 +2,7 @@
 use mathlib.Core.Path.{_≡_, refl}
 use mathlib.Core.Logic.{_⊎_, inl, inr}
 use Prim.Native.Nat.{ℕ, zero, suc, _+_, _-_, _*_, _/_, _^_, _≤_, _<_}
-use native.Mathlib.Nat.{pow-suc, le-refl, le-antisymm, le-of-suc-le-suc, eq-zero-or-pos, div-lt-iff-lt-mul, mul-le-mul-left}
+use native.Mathlib.Nat.{pow-suc, le-refl, le-antisymm, le-of-suc-le-suc, eq-zero-or-pos, lt-of-not-le, div-lt-iff-lt-mul, le-div-iff-mul-le, mul-le-mul-left}
 use native.Mathlib.Omega.{arith}
 use lib.Dec.{lit<}
 use lib.Pow.{pow-pos, pow-mono}
@@ -58,6 +58,9 @@ digits-zero : digits 0 ≡ 0
 unfolding digits
 digits-zero = halvings-zero 0
 
+pub digits-positive : (n : ℕ) → 0 < n → 0 < digits n
+digits-positive n h = lt-of-not-le (λ (g : digits n ≤ 0). omega (arith, pow-mono g, digits-above n))
+
 -- as a program counts them
 pub digits-leading : (k n : ℕ) → n < 2 ^ k → k - leadingZeros k n ≡ digits n
 digits-leading k n h =
@@ -83,3 +86,7 @@ pub ceil-le : (a c : ℕ) → 0 < c → ceilDiv a c ≤ a
 ceil-le a c h =
     let l : a * 1 ≤ a * c = mul-le-mul-left a h in
     le-of-suc-le-suc (div-lt-iff-lt-mul h .1 (omega arith))
+
+-- and not 0 where a is not
+pub ceil-pos : (a c : ℕ) → 0 < a → 0 < c → 0 < ceilDiv a c
+ceil-pos a c h g = le-div-iff-mul-le g .1 (omega arith)

@@ -1,5 +1,6 @@
--- Laws of the record: `Digits` of binary digits, `Limits` of what accepted inputs have met, `Sizes` of what follows for the record.
+-- Laws of the record: `Digits` of binary digits, `Limits` of what accepted inputs have met, `Exponent` of the byte that the record holds for the bound, `Sizes` of what follows for the record; `Examples`: worked examples.
 pub mod Digits
 pub mod Limits
 pub mod Exponent
 pub mod Sizes
+mod Examples

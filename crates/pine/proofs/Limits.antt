@@ -1,15 +1,25 @@
 -- What inputs that are accepted have met. Assumes nothing.
-use mathlib.Core.Path.{_≡_, refl}
+use mathlib.Core.Path.{_≡_, refl, ap}
+use mathlib.Core.Bool.{Bool, true, false, _||_}
 use Prim.Native.Nat.{ℕ, _≤_, _<_}
-use borrow.Author.Tests.{ltb-false}
-use Rattle.rules.specs.Rules.{accepted}
+use lib.Dec.{eqb}
+use borrow.Author.Tests.{ltb-false, le-ltb}
+use Rattle.rules.specs.Rules.{accepted, refuse}
 use Rattle.rules.proofs.Chain.{passed, not-so, inside, accepted-whole}
 use Rattle.pine.specs.declared.PineParam.{PineParam}
-use Rattle.pine.specs.Param.{Field, Field64, paramRules, paramAnswer}
+use Rattle.pine.specs.Param.{Field, Field64, alphaRule, paramRules, paramAnswer}
 
 -- Field64, written out
 pub field-64 : Field64 ≡ record { p = 18446744069414584321; floorLimit = 9223372034707292160; normLimit = 3037000499 }
 field-64 = refl
+
+-- a number of 16 bits is refused where it is 0
+pub alpha-zero : (a : ℕ) → a ≤ 65535 → alphaRule a ≡ refuse (eqb a 0) 19 0
+alpha-zero a h = rw (le-ltb 65535 a h) (go (eqb a 0))
+  where
+    go : (t : Bool) → refuse (t || false) 19 0 ≡ refuse t 19 0
+    go true = refl
+    go false = refl
 
 pub record Limits (F : Field) (i : PineParam) : Type 0 where
   pub successes : i .«num_wr_successes» ≤ i .«num_wr_tests»
@@ -19,6 +29,8 @@ pub record Limits (F : Field) (i : PineParam) : Type 0 where
   pub chunk : (0 < i .«chunk_len») × (i .«chunk_len» ≤ 65536)
   pub chunk-norm : (0 < i .«chunk_len_sq_norm_equal») × (i .«chunk_len_sq_norm_equal» ≤ 65536)
   pub tests : (0 < i .«num_wr_tests») × (i .«num_wr_tests» ≤ 256)
+  pub alpha : (0 < i .«alpha_numerator») × (i .«alpha_numerator» ≤ 65535)
+  pub alpha-over : (0 < i .«alpha_denominator») × (i .«alpha_denominator» ≤ 65535)
 
 module _ (F : Field) (i : PineParam) where
   pub limits : paramAnswer F i .number ≡ 0 → Limits F i
@@ -33,6 +45,8 @@ module _ (F : Field) (i : PineParam) where
         chunk = inside _ _ 4 0 (r .1 .1 .1 .1 .0);
         chunk-norm = inside _ _ 4 0 (r .1 .1 .1 .1 .1 .0);
         tests = inside _ _ 5 0 (r .1 .1 .1 .1 .1 .1 .0);
+        alpha = inside _ _ 18 0 (r .1 .1 .1 .1 .1 .1 .1 .0);
+        alpha-over = inside _ _ 18 0 (r .1 .1 .1 .1 .1 .1 .1 .1 .0);
       }
 
   -- an answer whose number is 0 has the place 0

@@ -2,7 +2,7 @@
 use mathlib.Core.Path.{_≡_, refl, sym, ap, _∙_}
 use mathlib.Core.Logic.{_⊎_, inl, inr}
 use Prim.Native.Nat.{ℕ, suc, _+_, _-_, _*_, _/_, _^_, _≤_, _<_}
-use native.Mathlib.Nat.{mul-le-mul, mul-pos, le-refl, le-trans, lt-of-le-of-lt, eq-zero-or-pos, pow-suc}
+use native.Mathlib.Nat.{le-of-eq, mul-le-mul, mul-pos, le-refl, le-trans, lt-of-le-of-lt, eq-zero-or-pos, pow-suc}
 use native.Mathlib.Omega.{arith}
 use lib.Dec.{lit<, lit≤}
 use lib.Pow.{pow-pos, pow-mono}
@@ -12,34 +12,38 @@ use Rattle.doubles.specs.Doubles.{power}
 use Rattle.pine.specs.declared.PineParam.{PineParam}
 use Rattle.pine.specs.declared.record.Pine.{Pine}
 use Rattle.pine.specs.Param.{Field, Field64, paramAnswer}
-use Rattle.pine.specs.Record.{ceilDiv, digits, testBoundOf, testExponentOf, sqNormBound, sqNormBits, wrTestBound, wrTestExponent, wrTestBits, bitCheckedLen, encodedInputLen, inputLen, gadgetCalls, gadgetCallsNorm, pineOf, boundIn, FromAccepted, proofLen, lengthsMain}
-use Rattle.pine.proofs.Digits.{digits-above, digits-least, digits-twice, digits-power, ceil-le}
+use Rattle.pine.specs.Record.{ceilDiv, digits, sqNormBound, sqNormBits, wrTestBound, wrTestExponent, wrTestBits, bitCheckedLen, encodedInputLen, inputLen, gadgetCalls, gadgetCallsNorm, pineOf, boundIn, FromAccepted, proofLen, lengthsMain}
+use Rattle.pine.proofs.Digits.{digits-above, digits-least, digits-twice, digits-power, digits-positive, ceil-le, ceil-pos}
 use Rattle.pine.proofs.Exponent.{digits-below, bound-some, exponent-room}
 use Rattle.pine.proofs.Limits.{Limits, limits}
 
 -- ---- the derived numbers are what they are called
 module _ (i : PineParam) where
-  -- b is a power of two not below ceil (87n / 10) + 1, and no greater than any other such
-  pub bound-above : ceilDiv (87 * i .«norm_bound») 10 + 1 ≤ wrTestBound i
-  unfolding wrTestBound
-  bound-above = omega (arith, digits-above (ceilDiv (87 * i .«norm_bound») 10))
+  -- ceil (alpha · n)
+  abbrev scaledBound : ℕ
+  scaledBound = ceilDiv (i .«alpha_numerator» * i .«norm_bound») (i .«alpha_denominator»)
 
-  pub bound-least : (k : ℕ) → ceilDiv (87 * i .«norm_bound») 10 + 1 ≤ 2 ^ k → wrTestBound i ≤ 2 ^ k
+  -- b is a power of two not below ceil (alpha · n) + 1, and no greater than any other such
+  pub bound-above : ceilDiv (i .«alpha_numerator» * i .«norm_bound») (i .«alpha_denominator») + 1 ≤ wrTestBound i
   unfolding wrTestBound
-  bound-least k h = pow-mono (digits-least (ceilDiv (87 * i .«norm_bound») 10) k (omega arith))
+  bound-above = omega (arith, digits-above scaledBound)
+
+  pub bound-least : (k : ℕ) → ceilDiv (i .«alpha_numerator» * i .«norm_bound») (i .«alpha_denominator») + 1 ≤ 2 ^ k → wrTestBound i ≤ 2 ^ k
+  unfolding wrTestBound
+  bound-least k h = pow-mono (digits-least scaledBound k (omega arith))
 
   pub bound-power : (k : ℕ) × (wrTestBound i ≡ 2 ^ k)
   unfolding wrTestBound
-  bound-power = (digits (ceilDiv (87 * i .«norm_bound») 10), refl)
+  bound-power = (digits scaledBound, refl)
 
   pub bound-positive : 0 < wrTestBound i
   unfolding wrTestBound
-  bound-positive = pow-pos (digits (ceilDiv (87 * i .«norm_bound») 10))
+  bound-positive = pow-pos (digits scaledBound)
 
   -- 2 ^ w is 2b
   pub bits-power : 2 ^ wrTestBits i ≡ 2 * wrTestBound i
   unfolding wrTestBits wrTestBound
-  bits-power = digits-power (digits (ceilDiv (87 * i .«norm_bound») 10))
+  bits-power = digits-power (digits scaledBound)
 
   -- the record's byte: b is 2 to it, and w one more
   pub bound-recovered : 2 ^ wrTestExponent i ≡ wrTestBound i
@@ -48,7 +52,7 @@ module _ (i : PineParam) where
 
   pub bits-recovered : wrTestExponent i + 1 ≡ wrTestBits i
   unfolding wrTestBits wrTestBound wrTestExponent
-  bits-recovered = sym (digits-below (testExponentOf 87 10 (i .«norm_bound»)))
+  bits-recovered = sym (digits-below (digits scaledBound))
 
   -- B has q digits
   pub norm-digits : 0 < i .«norm_bound» → (2 ^ sqNormBits i ≤ 2 * sqNormBound i) × (sqNormBound i < 2 ^ sqNormBits i)
@@ -59,13 +63,13 @@ module _ (i : PineParam) where
 pub record Sizes (i : PineParam) : Type 0 where
   pub norm : sqNormBound i < 2 ^ 64
   pub norm-bits : sqNormBits i ≤ 64
-  pub bound : wrTestBound i ≤ 2 ^ 36
-  pub bound-bits : wrTestBits i ≤ 37
-  pub test-bits : (1 + wrTestBits i) * i .«num_wr_tests» ≤ 38 * 256
-  pub checked : bitCheckedLen i ≤ 2 * 64 + 38 * 256
-  pub encoded : encodedInputLen i ≤ 65536 + (2 * 64 + 38 * 256)
-  pub input : inputLen i ≤ 65536 + (2 * 64 + 38 * 256) + 256
-  pub calls : gadgetCalls i ≤ 2 * 64 + 38 * 256 + 256
+  pub bound : wrTestBound i ≤ 2 ^ 48
+  pub bound-bits : wrTestBits i ≤ 49
+  pub test-bits : (1 + wrTestBits i) * i .«num_wr_tests» ≤ 50 * 256
+  pub checked : bitCheckedLen i ≤ 2 * 64 + 50 * 256
+  pub encoded : encodedInputLen i ≤ 65536 + (2 * 64 + 50 * 256)
+  pub input : inputLen i ≤ 65536 + (2 * 64 + 50 * 256) + 256
+  pub calls : gadgetCalls i ≤ 2 * 64 + 50 * 256 + 256
   pub calls-norm : gadgetCallsNorm i ≤ 65536
 
 module _ (F : Field) (i : PineParam) (narrow : F .normLimit ≤ 4294967295) (l : Limits F i) where
@@ -77,31 +81,35 @@ module _ (F : Field) (i : PineParam) (narrow : F .normLimit ≤ 4294967295) (l :
   unfolding sqNormBits
   norm-bits = digits-least _ 64 norm
 
-  bound : wrTestBound i ≤ 2 ^ 36
-  bound = bound-least i 36 (omega (arith, l .norm .1))
+  exponent-small : wrTestExponent i ≤ 48
+  unfolding wrTestExponent
+  exponent-small = exponent-room (i .«alpha_numerator») (i .«alpha_denominator») (i .«norm_bound») (l .alpha .1) (l .alpha-over .0) (le-trans (l .norm .1) narrow)
 
-  bound-bits : wrTestBits i ≤ 37
+  bound : wrTestBound i ≤ 2 ^ 48
+  bound = le-trans (le-of-eq (sym (bound-recovered i))) (pow-mono exponent-small)
+
+  bound-bits : wrTestBits i ≤ 49
   unfolding wrTestBits
-  bound-bits = digits-least _ 37 (omega (arith, bound, bound-positive i))
+  bound-bits = digits-least _ 49 (omega (arith, bound, bound-positive i))
 
-  test-bits : (1 + wrTestBits i) * i .«num_wr_tests» ≤ 38 * 256
+  test-bits : (1 + wrTestBits i) * i .«num_wr_tests» ≤ 50 * 256
   test-bits =
-      let h : 1 + wrTestBits i ≤ 38 = omega (arith, bound-bits) in
+      let h : 1 + wrTestBits i ≤ 50 = omega (arith, bound-bits) in
       mul-le-mul h (l .tests .1)
 
-  checked : bitCheckedLen i ≤ 2 * 64 + 38 * 256
+  checked : bitCheckedLen i ≤ 2 * 64 + 50 * 256
   unfolding bitCheckedLen
   checked = omega (arith, norm-bits, test-bits)
 
-  encoded : encodedInputLen i ≤ 65536 + (2 * 64 + 38 * 256)
+  encoded : encodedInputLen i ≤ 65536 + (2 * 64 + 50 * 256)
   unfolding encodedInputLen
   encoded = omega (arith, checked, l .dimension .1)
 
-  input : inputLen i ≤ 65536 + (2 * 64 + 38 * 256) + 256
+  input : inputLen i ≤ 65536 + (2 * 64 + 50 * 256) + 256
   unfolding inputLen
   input = omega (arith, encoded, l .tests .1)
 
-  calls : gadgetCalls i ≤ 2 * 64 + 38 * 256 + 256
+  calls : gadgetCalls i ≤ 2 * 64 + 50 * 256 + 256
   unfolding gadgetCalls
   calls = omega (arith, ceil-le (bitCheckedLen i) (i .«chunk_len») (l .chunk .0), ceil-le (i .«num_wr_tests») (i .«chunk_len») (l .chunk .0), checked, l .tests .1)
 
@@ -141,28 +149,22 @@ module _ (i : PineParam) where
     pub calls : callsFrom (pineOf i .«wr_test_exponent») ≡ gadgetCalls i
     pub proof : proofLen (2 * i .«chunk_len») (callsFrom (pineOf i .«wr_test_exponent»)) ≡ lengthsMain (pineOf i) .«proof_len»
 
-  exponent-positive : 0 < i .«norm_bound» → 0 < wrTestExponent i
-  exponent-positive h = go (eq-zero-or-pos (wrTestExponent i))
-    where
-      go : (wrTestExponent i ≡ 0) ⊎ (0 < wrTestExponent i) → 0 < wrTestExponent i
-      go (inl e) = absurd (omega (arith, bound-above i, bound-recovered i, ap (λ (k : ℕ). 2 ^ k) e))
-      go (inr g) = g
+  -- ceil (alpha · n) is not 0
+  exponent-positive : 0 < i .«alpha_numerator» * i .«norm_bound» → 0 < i .«alpha_denominator» → 0 < wrTestExponent i
+  unfolding wrTestExponent
+  exponent-positive h g = digits-positive _ (ceil-pos _ _ h g)
 
 module _ (F : Field) (i : PineParam) (narrow : F .normLimit ≤ 4294967295) (l : Limits F i) where
-  exponent-small : wrTestExponent i ≤ 48
-  unfolding wrTestExponent
-  exponent-small = exponent-room 87 10 (i .«norm_bound») (lit≤ tt) (lit< tt) (le-trans (l .norm .1) narrow)
-
   bound-in : boundIn (pineOf i) ≡ wrTestBound i
   unfolding boundIn pineOf
-  bound-in = bound-some (wrTestExponent i) (exponent-positive i (l .norm .0)) (omega (arith, exponent-small)) ∙ bound-recovered i
+  bound-in = bound-some (wrTestExponent i) (exponent-positive i (mul-pos (l .alpha .0) (l .norm .0)) (l .alpha-over .0)) (omega (arith, exponent-small F i narrow l)) ∙ bound-recovered i
 
   pub recovered : Recovered i
   unfolding pineOf bitCheckedLen encodedInputLen inputLen gadgetCalls lengthsMain
   recovered =
       let w = bits-recovered i in
       record {
-        byte = omega (arith, exponent-small);
+        byte = omega (arith, exponent-small F i narrow l);
         bound = bound-in;
         bits = w;
         checked = rw w refl;
@@ -203,7 +205,7 @@ pub record Small (r : Pine) : Type 0 where
   pub tests : r .«num_wr_tests» ≤ 256
   pub chunk : r .«chunk_len» ≤ 65536
   pub chunk-norm : r .«chunk_len_sq_norm_equal» ≤ 65536
-  pub calls : r .«gadget_calls» ≤ 2 * 64 + 38 * 256 + 256
+  pub calls : r .«gadget_calls» ≤ 2 * 64 + 50 * 256 + 256
   pub calls-norm : r .«gadget_calls_sq_norm_equal» ≤ 65536
 
 pub small : (r : Pine) → FromAccepted Field64 r → Small r

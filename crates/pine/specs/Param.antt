@@ -1,4 +1,4 @@
--- The seven inputs and rules 1 to 6 (document 01, "Rules broken"). Assumes nothing.
+-- The inputs and the rules on them: 1 to 6 (document 01, "Rules broken"), then 19 (document 02, g). Assumes nothing.
 use Prim.Native.Nat.{ℕ}
 use mathlib.Core.List.{List, [], _∷_}
 use lib.Dec.{ltb}
@@ -17,11 +17,29 @@ pub record Field : Type 0 where
 abbrev pub Field64 : Field
 Field64 = record { p = p64; floorLimit = floorLimit64; normLimit = 3037000499 }
 
+-- the inputs with the multiplier 87 / 10, which the original's ALPHA is
+abbrev pub standard : (n d f c e T K : ℕ) → PineParam
+standard n d f c e T K = record {
+  «norm_bound» = n;
+  dimension = d;
+  «frac_bits» = f;
+  «chunk_len» = c;
+  «chunk_len_sq_norm_equal» = e;
+  «num_wr_tests» = T;
+  «num_wr_successes» = K;
+  «alpha_numerator» = 87;
+  «alpha_denominator» = 10;
+}
+
 -- one chunk length
 abbrev pub chunkRule : ℕ → Answer
 chunkRule c = refuse (outOf c 65536) 5 0
 
--- rules 1 to 6, in their order
+-- one number of the multiplier. It has 16 bits, so that it is refused where it is 0
+abbrev pub alphaRule : ℕ → Answer
+alphaRule a = refuse (outOf a 65535) 19 0
+
+-- the rules on the inputs, in their order
 unfoldable pub paramRules : Field → PineParam → List Answer
 paramRules F i =
     refuse (ltb (i .«num_wr_tests») (i .«num_wr_successes»)) 1 0
@@ -31,6 +49,8 @@ paramRules F i =
     ∷ chunkRule (i .«chunk_len»)
     ∷ chunkRule (i .«chunk_len_sq_norm_equal»)
     ∷ refuse (outOf (i .«num_wr_tests») 256) 6 0
+    ∷ alphaRule (i .«alpha_numerator»)
+    ∷ alphaRule (i .«alpha_denominator»)
     ∷ []
 
 unfoldable pub paramAnswer : Field → PineParam → Answer

@@ -1,4 +1,4 @@
--- What is derived from the seven inputs (document 01, "The parameter record"). Assumes nothing.
+-- What is derived from the inputs (document 01, "The parameter record"). Assumes nothing.
 use Prim.Native.Nat.{ℕ, zero, suc, _+_, _-_, _*_, _/_, _^_}
 use mathlib.Core.Bool.{cond}
 use mathlib.Core.Path.{_≡_}
@@ -59,13 +59,13 @@ module _ (i : PineParam) where
   unfoldable pub sqNormBits : ℕ
   sqNormBits = digits sqNormBound
 
-  -- b: the multiplier is 8.7
+  -- b
   unfoldable pub wrTestBound : ℕ
-  wrTestBound = testBoundOf 87 10 (i .«norm_bound»)
+  wrTestBound = testBoundOf (i .«alpha_numerator») (i .«alpha_denominator») (i .«norm_bound»)
 
   -- b's power of two, which the record holds in its place
   unfoldable pub wrTestExponent : ℕ
-  wrTestExponent = testExponentOf 87 10 (i .«norm_bound»)
+  wrTestExponent = testExponentOf (i .«alpha_numerator») (i .«alpha_denominator») (i .«norm_bound»)
 
   -- w
   unfoldable pub wrTestBits : ℕ

@@ -64,12 +64,14 @@ fn power_above(n: u64) -> u64
     1 << bits(n)
 }
 
-// The exponent of the smallest power of two not below ceil(8.7 n) + 1.
-fn wr_test_exponent(norm_bound: u64) -> u8
-    requires { ⌜ «norm_bound» ≤ 3037000499 ⌝ }
-    ensures { λ r. ⌜ r ≡ testExponentOf 87 10 «norm_bound» ⌝ }
+// The exponent of the smallest power of two not below ceil(numerator · norm_bound / denominator) + 1.
+fn wr_test_exponent(numerator: u16, denominator: u16, norm_bound: u64) -> u8
+    requires { ⌜ (0 < denominator) × («norm_bound» ≤ 3037000499) ⌝ }
+    ensures { λ r. ⌜ r ≡ testExponentOf numerator denominator «norm_bound» ⌝ }
 {
-    bits((87 * norm_bound + 9) / 10) as u8
+    let num = numerator as u64;
+    let den = denominator as u64;
+    bits((num * norm_bound + (den - 1)) / den) as u8
 }
 
 // The proof length of a circuit whose one gadget has so many inputs and is called so often.
@@ -87,7 +89,11 @@ impl Pine {
     {
         let sq_norm_bound = param.norm_bound * param.norm_bound;
         let sq_norm_bits = bits(sq_norm_bound);
-        let exponent = wr_test_exponent(param.norm_bound);
+        let exponent = wr_test_exponent(
+            param.alpha_numerator,
+            param.alpha_denominator,
+            param.norm_bound,
+        );
         let wr_test_bits = exponent as u64 + 1;
         let bit_checked_len = 2 * sq_norm_bits + (1 + wr_test_bits) * param.num_wr_tests;
         let encoded_input_len = param.dimension + bit_checked_len;

@@ -2,6 +2,7 @@
 use crate::aggregates;
 use crate::aggregates::Call;
 use crate::circuits;
+use crate::inputs::read_later;
 use crate::inputs::read_param;
 use crate::reports;
 use crate::vectors;
@@ -151,19 +152,16 @@ fn of_aggregates(name: &[u8], line: &[u8], c: Cursor, out: &mut [u8], at: usize)
     of_withdrawals(name, line, c, out, at)
 }
 
-// Answers a line.
-pub fn answer(line: &[u8], out: &mut [u8], at: usize) -> usize {
-    let w = words::next_word(line, Cursor::new());
+// Answers a case: the line from a cursor on.
+fn answer_case(line: &[u8], case: Cursor, out: &mut [u8], at: usize) -> usize {
+    let w = words::next_word(line, case);
     let start = w.start;
     let end = w.end;
-    if start == end {
-        return at;
-    }
-    if line[0] == b'#' {
-        return at;
-    }
     let name = &line[start..end];
-    let c = Cursor { at: end, ok: true };
+    let c = Cursor {
+        at: end,
+        ok: case.ok,
+    };
     if check::same(name, b"params") {
         return params(line, c, out, at);
     }
@@ -174,4 +172,17 @@ pub fn answer(line: &[u8], out: &mut [u8], at: usize) -> usize {
         return decode(line, c, out, at);
     }
     of_aggregates(name, line, c, out, at)
+}
+
+// Answers a line.
+pub fn answer(line: &[u8], out: &mut [u8], at: usize) -> usize {
+    let w = words::next_word(line, Cursor::new());
+    if w.start == w.end {
+        return at;
+    }
+    if line[0] == b'#' {
+        return at;
+    }
+    let later = read_later(line);
+    answer_case(line, later.case, out, at)
 }

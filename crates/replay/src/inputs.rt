@@ -1,15 +1,74 @@
-// The seven inputs of a case, and the lengths of the rows that its call is lent.
+// The inputs of a case, and the lengths of the rows that its call is lent.
 use lines::words;
 use lines::words::Cursor;
 use pine::PineParam;
 ghost use Prim.Native.Nat.{_≤_};
+
+// The inputs that stand before a case, `with NUM DEN RULE SWITCH`, and where the case begins.
+pub struct Later {
+    pub alpha_numerator: u16,
+    pub alpha_denominator: u16,
+    pub case: Cursor,
+}
+
+// The number, and whether it has no more bits than its input.
+struct Narrow {
+    value: u16,
+    ok: bool,
+}
+
+fn narrow(n: u64) -> Narrow {
+    if n <= 65535 {
+        Narrow {
+            value: n as u16,
+            ok: true,
+        }
+    } else {
+        Narrow {
+            value: 0,
+            ok: false,
+        }
+    }
+}
+
+// Those of the standard setting where nothing stands before the case.
+pub fn read_later(line: &[u8]) -> Later {
+    let w = words::next_word(line, Cursor::new());
+    let start = w.start;
+    let end = w.end;
+    if !check::same(&line[start..end], b"with") {
+        return Later {
+            alpha_numerator: 87,
+            alpha_denominator: 10,
+            case: Cursor::new(),
+        };
+    }
+    let numerator = words::decimal(line, Cursor { at: end, ok: true });
+    let denominator = words::decimal(line, numerator.next);
+    let rule = words::decimal(line, denominator.next);
+    let switch = words::decimal(line, rule.next);
+    let above = narrow(numerator.value);
+    let below = narrow(denominator.value);
+    let next = switch.next;
+    let off = rule.value == 0 && switch.value == 0;
+    Later {
+        alpha_numerator: above.value,
+        alpha_denominator: below.value,
+        case: Cursor {
+            at: next.at,
+            ok: next.ok & above.ok & below.ok & off,
+        },
+    }
+}
 
 pub struct ReadParam {
     pub param: PineParam,
     pub next: Cursor,
 }
 
+// The seven inputs from a cursor on, with the line's later ones.
 pub fn read_param(line: &[u8], c: Cursor) -> ReadParam {
+    let later = read_later(line);
     let norm_bound = words::decimal(line, c);
     let dimension = words::decimal(line, norm_bound.next);
     let frac_bits = words::decimal(line, dimension.next);
@@ -26,6 +85,8 @@ pub fn read_param(line: &[u8], c: Cursor) -> ReadParam {
         chunk_len_sq_norm_equal: chunk_len_sq_norm_equal.value,
         num_wr_tests: num_wr_tests.value,
         num_wr_successes: num_wr_successes.value,
+        alpha_numerator: later.alpha_numerator,
+        alpha_denominator: later.alpha_denominator,
     };
     ReadParam { param, next }
 }

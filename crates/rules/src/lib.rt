@@ -1,7 +1,7 @@
 // What every call answers: the number and the place of the first rule broken, or 0 and 0. Here stand
 // the rules' numbers, by name, and the order by which the first refusal decides. The table of the rules
 // is document 01's, "Rules broken"; what each says is defined where it applies: in the specs/ of pine (1
-// to 6), doubles (4, and 8 and 12 of one number), rows (7 and 12) and flp (8 to 11, and 13).
+// to 6, and 19), doubles (4, and 8 and 12 of one number), rows (7 and 12) and flp (8 to 11, and 13).
 ghost use mathlib.Core.Path.{_≡_};
 ghost use mathlib.Core.Bool.{cond};
 ghost use lib.Dec.{eqb};
@@ -35,6 +35,8 @@ pub const ELEMENT: u64 = 12;
 pub const NUM_SHARES: u64 = 13;
 // The floor of a coordinate lies beyond the field's limit.
 pub const FLOOR: u64 = 17;
+// A number of the multiplier alpha is 0.
+pub const ALPHA: u64 = 19;
 
 // The rule that was broken and its place, or 0 and 0.
 #[repr(C)]

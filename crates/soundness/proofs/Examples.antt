@@ -12,7 +12,7 @@ use Rattle.field64.specs.Sums.{evaluate}
 use Rattle.field64.proofs.Powers.{squared}
 use Rattle.field64.proofs.Primes.{prime-by}
 use Rattle.pine.specs.declared.PineParam.{PineParam}
-use Rattle.pine.specs.Param.{Field, Field64, paramRules, paramAnswer}
+use Rattle.pine.specs.Param.{Field, Field64, paramRules, paramAnswer, standard}
 use Rattle.pine.specs.Record.{halvings, digits, sqNormBound, sqNormBits, wrTestBound, wrTestBits, bitCheckedLen, encodedInputLen, inputLen}
 use Rattle.pine.proofs.Sizes.{sizes-64, limits-64}
 use Rattle.flp.specs.Bits.{groups}
@@ -58,7 +58,7 @@ threes-in-bits = refl
 
 -- n = 1, so B = 1 of one bit and b = 16; d = 1; tests of 5 bits and a success bit each, of which K are to succeed
 abbrev inputs : (T K : ℕ) → PineParam
-inputs T K = record { «norm_bound» = 1; dimension = 1; «frac_bits» = 0; «chunk_len» = 1; «chunk_len_sq_norm_equal» = 1; «num_wr_tests» = T; «num_wr_successes» = K }
+inputs T K = standard 1 1 0 1 1 T K
 
 -- a coordinate; v and u; a test's bits and success bit; its result
 abbrev with-norm : (v u : ℕ) → List ℕ
@@ -119,7 +119,7 @@ worst-5 = refl
 
 -- T = 100, n = 2 ^ 20: q = 41, w = 25, L = 2682
 abbrev usual : PineParam
-usual = record { «norm_bound» = 1048576; dimension = 1000; «frac_bits» = 15; «chunk_len» = 50; «chunk_len_sq_norm_equal» = 32; «num_wr_tests» = 100; «num_wr_successes» = 100 }
+usual = standard 1048576 1000 15 50 32 100 100
 
 record Usual : Type 0 where
   inputs : paramAnswer Field64 usual .number ≡ 0
@@ -138,8 +138,8 @@ usual-is = record { inputs = refl; q = refl; w = refl; L = refl; worst-is = refl
 -- whatever the accepted inputs are: less than one triple in 2 ^ 50
 rate-64 : (i : PineParam) (full : List ℕ) → FullVector Field64 i full → (WellFormed p64 i full → ⊥) → triples p64 (looksTrue Field64 i full) * 2 ^ 50 < p64 * (p64 * p64)
 rate-64 i full v bad =
-    let l : worst i ≤ 9855 = omega (arith, sizes-64 i (v .inputs) .checked, limits-64 i (v .inputs) .tests .1) in
+    let l : worst i ≤ 12927 = omega (arith, sizes-64 i (v .inputs) .checked, limits-64 i (v .inputs) .tests .1) in
     scaled (triples p64 (looksTrue Field64 i full)) (p64 * p64) (lit< tt) (le-trans (soundness-64 .rarely i full v bad) (mul-le-mul-right (p64 * p64) l))
   where
-    scaled : (a s : ℕ) → 0 < s → a ≤ 9855 * s → a * 2 ^ 50 < p64 * s
+    scaled : (a s : ℕ) → 0 < s → a ≤ 12927 * s → a * 2 ^ 50 < p64 * s
     scaled a s some h = omega arith

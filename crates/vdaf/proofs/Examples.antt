@@ -8,23 +8,28 @@ use Rattle.rules.specs.Rules.{answer, accepted}
 use Rattle.field64.specs.Field.{p64}
 use Rattle.doubles.specs.Doubles.{plusZero, centred, decoded}
 use Rattle.pine.specs.declared.PineParam.{PineParam}
-use Rattle.pine.specs.Param.{Field64, paramRules, paramAnswer}
+use Rattle.pine.specs.Param.{Field64, paramRules, paramAnswer, standard}
 use Rattle.rows.specs.Outcome.{Outcome, outcome}
 use Rattle.vdaf.specs.Aggregates.{emptyAnswer, emptyOf, accumulateAnswer, accumulateOf, subtractOf, UnshardOutcome, unshardOutcome, decodedSums, unshardAnswer, unshardOf}
 
 -- the inputs with this dimension and these fractional bits; the others are the least
 abbrev inputs : (d f : ℕ) → PineParam
-inputs d f = record { «norm_bound» = 1; dimension = d; «frac_bits» = f; «chunk_len» = 1; «chunk_len_sq_norm_equal» = 1; «num_wr_tests» = 1; «num_wr_successes» = 1 }
+inputs d f = standard 1 d f 1 1 1 1
+
+-- refused by 19, the last of the rules on inputs
+abbrev without-multiplier : (d : ℕ) → PineParam
+without-multiplier d = record { «norm_bound» = 1; dimension = d; «frac_bits» = 0; «chunk_len» = 1; «chunk_len_sq_norm_equal» = 1; «num_wr_tests» = 1; «num_wr_successes» = 1; «alpha_numerator» = 87; «alpha_denominator» = 0 }
 
 -- ---- emptying: what the row held does not matter, its length does
 record Emptying : Type 0 where
   done : emptyOf Field64 (inputs 2 0) (77 ∷ (p64 + 8) ∷ []) ≡ outcome accepted (0 ∷ 0 ∷ [])
   short : emptyOf Field64 (inputs 2 0) (77 ∷ []) ≡ outcome (answer 7 1) (77 ∷ [])
   inputs-first : emptyOf Field64 (inputs 0 31) (77 ∷ []) ≡ outcome (answer 3 0) (77 ∷ [])
+  multiplier-first : emptyOf Field64 (without-multiplier 2) (77 ∷ []) ≡ outcome (answer 19 0) (77 ∷ [])
 
 emptying : Emptying
 unfolding emptyOf emptyAnswer paramAnswer paramRules
-emptying = record { done = refl; short = refl; inputs-first = refl }
+emptying = record { done = refl; short = refl; inputs-first = refl; multiplier-first = refl }
 
 -- ---- adding
 abbrev sum : (d f : ℕ) (agg share : List ℕ) → Outcome
@@ -42,6 +47,7 @@ record Adding : Type 0 where
   in-agg : sum 2 0 (1 ∷ p64 ∷ []) (p64 ∷ 3 ∷ []) ≡ outcome (answer 12 1) (1 ∷ p64 ∷ [])
   in-share : sum 2 0 (1 ∷ 2 ∷ []) (5 ∷ p64 ∷ []) ≡ outcome (answer 12 3) (1 ∷ 2 ∷ [])
   inputs-first : sum 2 31 (1 ∷ []) (p64 ∷ []) ≡ outcome (answer 4 0) (1 ∷ [])
+  multiplier-first : accumulateOf Field64 (without-multiplier 2) (1 ∷ []) (p64 ∷ []) ≡ outcome (answer 19 0) (1 ∷ [])
 
 adding : Adding
 unfolding accumulateOf accumulateAnswer paramAnswer paramRules
@@ -54,6 +60,7 @@ adding = record {
   in-agg = refl;
   in-share = refl;
   inputs-first = refl;
+  multiplier-first = refl;
 }
 
 -- ---- taking out: the rows and the refusals are adding's

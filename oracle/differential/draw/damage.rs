@@ -9,13 +9,14 @@ use crate::{
 };
 
 fn input(random: &mut Random, param: &mut Param) {
-    match random.below(7) {
+    match random.below(8) {
         0 => param.n = params::broken(random, N),
         1 => param.d = params::broken(random, D),
         2 => param.f = params::broken(random, F),
         3 => param.c = params::broken(random, CHUNK),
         4 => param.e = params::broken(random, CHUNK),
         5 => param.t = params::broken(random, T),
+        6 => params::break_alpha(random, param),
         _ => {
             let more = random.short(63);
             param.k = param.t.saturating_add(random.pick(&[1, 2, 1 << 32, u64::MAX, more]));

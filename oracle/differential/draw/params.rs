@@ -1,7 +1,7 @@
-//! The seven inputs.
+//! The inputs.
 
 use crate::{
-    param::{within, Limits, Param, Sizes, CHUNK, D, F, N, P, T},
+    param::{within, Limits, Param, Sizes, ALPHA, CHUNK, D, F, N, P, STANDARD, T},
     random::Random,
 };
 use std::sync::LazyLock;
@@ -99,8 +99,28 @@ fn chunk(random: &mut Random, lengths: &[u64]) -> u64 {
     chunk.clamp(1, 65536)
 }
 
+/// Another multiplier, and half of the time a norm bound at which its test bound doubles, or the one before.
+fn multiply(random: &mut Random, param: &mut Param) {
+    param.alpha = [0; 2].map(|_| allowed(random, ALPHA) as u16);
+    let [above, below] = param.alpha.map(u128::from);
+    let power = 1 << (1 + random.below(48));
+    let step = ((power - 1) * below / above) as u64 + random.below(2);
+    if within(step, N) && random.once_in(2) {
+        param.n = step;
+    }
+}
+
+/// A number of the multiplier, or both, set to 0.
+pub fn break_alpha(random: &mut Random, param: &mut Param) {
+    let [above, below] = param.alpha;
+    param.alpha = random.pick(&[[0, below], [above, 0], [0, 0]]);
+}
+
 fn with_chunks(random: &mut Random, n: u64, d: u64, f: u64, t: u64) -> Param {
-    let mut param = Param { n, d, f, c: 1, e: 1, t, k: successes(random, t) };
+    let mut param = Param { n, d, f, c: 1, e: 1, t, k: successes(random, t), alpha: STANDARD };
+    if random.once_in(4) {
+        multiply(random, &mut param);
+    }
     let checked = Sizes::of(&param).checked as u64;
     param.c = chunk(random, &[checked, checked, t]);
     param.e = chunk(random, &[d]);
@@ -131,13 +151,14 @@ fn shape(random: &mut Random) -> (u64, u64) {
 
 /// One input just beyond its limit, so that the rows can have the lengths which that would give.
 fn just_beyond(random: &mut Random, param: &mut Param) {
-    match random.below(7) {
+    match random.below(8) {
         0 => param.n = N.1 + 1,
         1 => param.d = D.1 + 1,
         2 => param.f = F.1 + 1,
         3 => param.c = CHUNK.1 + 1,
         4 => param.e = CHUNK.1 + 1,
         5 => param.t = T.1 + 1,
+        6 => break_alpha(random, param),
         _ => param.k = param.t + 1,
     }
 }

@@ -27,6 +27,9 @@ limit-requires-4 c κs = search needs
 limit-requires-5 : tie.Need-limit-requires-5
 limit-requires-5 c κs = search needs
 
+check-alpha-requires : tie.Need-check-alpha-requires
+check-alpha-requires c κs = search needs
+
 or-requires : tie.Need-or-requires
 or-requires c κs = search needs
 
@@ -45,21 +48,26 @@ or-requires-5 c κs = search needs
 or-requires-6 : tie.Need-or-requires-6
 or-requires-6 c κs = search needs
 
+or-requires-7 : tie.Need-or-requires-7
+or-requires-7 c κs = search needs
+
 returns : tie.Need-returns
 unfolding paramAnswer paramRules
 returns c =
-    let o1 = c .before .before .before .before .before in
-    let l5 = o1 .before in
+    let o1 = c .before .before .before .before .before .before in
+    let l5 = o1 .before .before in
     let l3 = l5 .before .before in
     let l1 = l3 .before .before .before in
     let i = l1 .before .before .before .args .param in
     simp (
-      c .or6 .ensures,
-      c .before .or5 .ensures,
-      c .before .before .or4 .ensures,
-      c .before .before .before .or3 .ensures,
-      c .before .before .before .before .or2 .ensures,
+      c .or7 .ensures,
+      c .before .or6 .ensures,
+      c .before .before .or5 .ensures,
+      c .before .before .before .or4 .ensures,
+      c .before .before .before .before .or3 .ensures,
+      c .before .before .before .before .before .or2 .ensures,
       o1 .or .ensures,
+      o1 .before .check-alpha .ensures,
       l5 .limit5 .ensures,
       l5 .before .limit4 .ensures,
       l3 .limit3 .ensures,
@@ -67,7 +75,7 @@ returns c =
       l3 .before .before .limit2 .ensures,
       l1 .limit .ensures,
       l1 .before .refuse-if .ensures,
-      refuse-last (outOf (i .«num_wr_tests») 256) 5 0,
+      refuse-last (outOf (i .«alpha_denominator») 65535) 18 0,
     )
 
 pub check-param-spec : {M : Type 1} → statement M
@@ -81,10 +89,12 @@ check-param-spec =
     limit-requires-3
     limit-requires-4
     limit-requires-5
+    check-alpha-requires
     or-requires
     or-requires-2
     or-requires-3
     or-requires-4
     or-requires-5
     or-requires-6
+    or-requires-7
     returns)

@@ -18,8 +18,8 @@ use Rattle.pine.proofs.record.Pine.new.Lts as lts
 -- how large the locals are
 record Known (i : PineParam) (q w : ℕ) : Type 0 where
   norm-bits : q ≤ 64
-  bound-bits : w ≤ 37
-  test-bits : (1 + w) * i .«num_wr_tests» ≤ 38 * 256
+  bound-bits : w ≤ 49
+  test-bits : (1 + w) * i .«num_wr_tests» ≤ 50 * 256
   limits : Limits Field64 i
 
 known-of : (i : PineParam) (q w : ℕ) → paramAnswer Field64 i ≡ accepted → q ≡ sqNormBits i → w ≡ wrTestBits i → Known i q w
@@ -56,7 +56,9 @@ bits-requires : tie.Need-bits-requires
 bits-requires c κs = search needs
 
 wr-test-exponent-requires : tie.Need-wr-test-exponent-requires
-wr-test-exponent-requires c κs = limits-64 (c .before .before .args .param) (c .before .before .pre) .norm .1
+wr-test-exponent-requires c κs =
+    let l = limits-64 (c .before .before .args .param) (c .before .before .pre) in
+    (l .alpha-over .0, l .norm .1)
 
 cast-wr-test-bits : tie.Need-cast-wr-test-bits
 cast-wr-test-bits c = search needs
