@@ -162,7 +162,8 @@ impl Display for Case {
     fn fmt(&self, to: &mut Formatter) -> Result {
         if !self.param.is_standard() {
             let [above, below] = self.param.alpha;
-            write!(to, "with {above} {below} 0 0 ")?;
+            let rule = u8::from(self.param.lets_miss());
+            write!(to, "with {above} {below} {rule} 0 ")?;
         }
         write!(to, "{}", self.call.word())?;
         match self.call {

@@ -1,10 +1,11 @@
 //! One case put to both, and everything compared.
 
 use crate::{
-    case::Case,
+    case::{Call, Case, Row},
     lent::Lent,
     original,
     ours::{self, Given},
+    param::{Param, P},
     random::Random,
     rules::{self, Answer, ACCEPTED},
 };
@@ -80,7 +81,27 @@ pub fn compare_on(rows: &mut [Lent], case: &Case) -> Result<Same, String> {
     found.map_err(|difference| format!("ours {}, by document 01 {answer}; {difference}", given.answer))
 }
 
+fn lend(random: &mut Random, case: &Case) -> Vec<Lent> {
+    case.rows.iter().map(|row| Lent::new(random, row)).collect()
+}
+
+/// On a report that encoding wrote.
+fn circuits_give_zero(random: &mut Random, param: Param, written: &[Vec<u64>]) -> Outcome {
+    let full = || Row::Elements(written.concat());
+    let joint_rand = Row::Elements([0; 3].map(|_| random.next() % P).to_vec());
+    for (call, rows) in [(Call::Valid, vec![full(), joint_rand]), (Call::ValidSqNormEqual, vec![full()])] {
+        let circuit = Case { call, param, number: 1, rows };
+        let given = ours::call(&circuit, &mut lend(random, &circuit));
+        let what = format!("{} of the report, the answer's number and the value", call.name());
+        equal(&what, &[given.answer.number, given.values[0]], &[0, 0])?;
+    }
+    Ok(())
+}
+
 pub fn compare(random: &mut Random, case: &Case) -> Result<Same, String> {
-    let mut rows: Vec<Lent> = case.rows.iter().map(|row| Lent::new(random, row)).collect();
-    compare_on(&mut rows, case)
+    let same = compare_on(&mut lend(random, case), case)?;
+    if case.call == Call::Encode && same.answer == ACCEPTED {
+        circuits_give_zero(random, case.param, &same.written)?;
+    }
+    Ok(same)
 }

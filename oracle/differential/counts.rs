@@ -5,12 +5,12 @@ use crate::{
     compare::Same,
 };
 
-const RULES: [usize; 15] = [1, 2, 3, 4, 5, 6, 7, 8, 9, 10, 11, 12, 13, 17, 19];
+const RULES: [usize; 16] = [1, 2, 3, 4, 5, 6, 7, 8, 9, 10, 11, 12, 13, 17, 19, 20];
 
 #[derive(Clone, Copy, Default)]
 struct Count {
     /// By the answer's number.
-    answers: [u64; 20],
+    answers: [u64; 21],
     compared: u64,
     unchanged: u64,
 }

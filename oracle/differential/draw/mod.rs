@@ -27,7 +27,7 @@ fn encode(random: &mut Random) -> Case {
     let numbers = reports::numbers(random, &mut param);
     let gradient = reports::gradient(random, &numbers, param.f);
     let sizes = Sizes::of(&param);
-    let stream = reports::stream(random, &numbers, &sizes, param.t);
+    let stream = reports::stream(random, &numbers, &sizes, &param);
     let rows = vec![
         Row::Doubles(gradient),
         Row::Stream(stream),

@@ -136,9 +136,9 @@ pub fn any_stream(random: &mut Random, len: usize) -> Vec<u8> {
     random.bytes(len)
 }
 
-/// A pair of bits that mostly passes over a number beyond the test bound.
-fn pair(random: &mut Random, number: &i128, sizes: &Sizes) -> u8 {
-    if !sizes.in_range(*number) && !random.once_in(16) {
+/// A pair of bits that mostly passes over a number beyond the test bound, and less so where a test may miss.
+fn pair(random: &mut Random, number: &i128, sizes: &Sizes, param: &Param) -> u8 {
+    if !sizes.in_range(*number) && !random.once_in(if param.lets_miss() { 3 } else { 16 }) {
         random.pick(&[1, 2])
     } else {
         random.below(4) as u8
@@ -146,16 +146,16 @@ fn pair(random: &mut Random, number: &i128, sizes: &Sizes) -> u8 {
 }
 
 /// Where there are numbers beyond the test bound, most streams pass over them.
-pub fn stream(random: &mut Random, numbers: &[i128], sizes: &Sizes, t: u64) -> Vec<u8> {
+pub fn stream(random: &mut Random, numbers: &[i128], sizes: &Sizes, param: &Param) -> Vec<u8> {
     if random.once_in(4) || numbers.iter().all(|x| sizes.in_range(*x)) {
         return any_stream(random, sizes.stream);
     }
     let mut stream = Vec::with_capacity(sizes.stream);
-    for _ in 0..t {
+    for _ in 0..param.t {
         for four in numbers.chunks(4) {
             let mut byte = random.next() as u8;
             for (i, number) in four.iter().enumerate() {
-                byte = byte & !(3 << (2 * i)) | pair(random, number, sizes) << (2 * i);
+                byte = byte & !(3 << (2 * i)) | pair(random, number, sizes, param) << (2 * i);
             }
             stream.push(byte);
         }
