@@ -162,8 +162,8 @@ impl Display for Case {
     fn fmt(&self, to: &mut Formatter) -> Result {
         if !self.param.is_standard() {
             let [above, below] = self.param.alpha;
-            let rule = u8::from(self.param.lets_miss());
-            write!(to, "with {above} {below} {rule} 0 ")?;
+            let [rule, switch] = [self.param.lets_miss(), self.param.bounds_true_norm()].map(u8::from);
+            write!(to, "with {above} {below} {rule} {switch} ")?;
         }
         write!(to, "{}", self.call.word())?;
         match self.call {

@@ -5,12 +5,12 @@ use crate::{
     compare::Same,
 };
 
-const RULES: [usize; 16] = [1, 2, 3, 4, 5, 6, 7, 8, 9, 10, 11, 12, 13, 17, 19, 20];
+const RULES: [usize; 17] = [1, 2, 3, 4, 5, 6, 7, 8, 9, 10, 11, 12, 13, 17, 19, 20, 21];
 
 #[derive(Clone, Copy, Default)]
 struct Count {
     /// By the answer's number.
-    answers: [u64; 21],
+    answers: [u64; 22],
     compared: u64,
     unchanged: u64,
 }

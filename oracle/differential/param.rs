@@ -36,12 +36,16 @@ pub struct Param {
     pub alpha: [u16; 2],
     /// 0 for the first test rule, any other byte for the second.
     pub test_rule: u8,
+    /// 0 for a bound on the squared norm modulo p alone, any other byte for one on the true norm too.
+    pub true_norm: u8,
 }
+
+const _: () = assert!(size_of::<Param>() == 64);
 
 impl Param {
     /// For these seven, with document 02's as the original has them.
     pub fn standard([n, d, f, c, e, t, k]: [u64; 7]) -> Param {
-        Param { n, d, f, c, e, t, k, alpha: STANDARD, test_rule: 0 }
+        Param { n, d, f, c, e, t, k, alpha: STANDARD, test_rule: 0, true_norm: 0 }
     }
 
     /// Those that the original has.
@@ -54,8 +58,12 @@ impl Param {
         self.test_rule != 0
     }
 
+    pub fn bounds_true_norm(&self) -> bool {
+        self.true_norm != 0
+    }
+
     pub fn is_standard(&self) -> bool {
-        self.alpha == STANDARD && !self.lets_miss()
+        self.alpha == STANDARD && !self.lets_miss() && !self.bounds_true_norm()
     }
 }
 

@@ -91,7 +91,9 @@ fn rule_on_tests(param: &Param, sizes: &Sizes, numbers: &[i128], stream: &[u8]) 
 
 fn rules_on_numbers(param: &Param, numbers: &[i128], stream: &[u8]) -> Option<Answer> {
     let sizes = Sizes::of(param);
-    rule(10, u128::from(whole::squared_norm(numbers)) > sizes.bound)
+    let is_long = || whole::true_squared_norm(numbers).is_none_or(|norm| norm > sizes.bound);
+    rule(21, param.bounds_true_norm() && is_long())
+        .or_else(|| rule(10, u128::from(whole::squared_norm(numbers)) > sizes.bound))
         .or_else(|| rule_on_tests(param, &sizes, numbers, stream))
 }
 

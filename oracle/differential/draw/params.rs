@@ -124,7 +124,7 @@ pub fn break_alpha(random: &mut Random, param: &mut Param) {
 
 fn with_chunks(random: &mut Random, n: u64, d: u64, f: u64, t: u64) -> Param {
     let mut param = Param::standard([n, d, f, 1, 1, t, successes(random, t)]);
-    param.test_rule = choice(random);
+    (param.test_rule, param.true_norm) = (choice(random), choice(random));
     if random.once_in(4) {
         multiply(random, &mut param);
     }

@@ -37,13 +37,16 @@ fn small(random: &mut Random, most: u64) -> i128 {
     i128::from(random.below(2 * most + 1)) - i128::from(most)
 }
 
-/// Whole numbers whose squares add up to about n x n at most.
+/// Whole numbers whose squares add up to about n x n at most, or to it, or to one more.
 fn in_ball(random: &mut Random, n: u64, d: usize) -> Vec<i128> {
     let way = random.below(4);
     if way == 0 {
         let mut numbers = vec![0; d];
         let edge = i128::from(n - random.below(2));
         numbers[random.index(d)] = signed(random, edge);
+        if random.once_in(4) {
+            numbers[random.index(d)] += 1;
+        }
         return numbers;
     }
     let size = if way == 1 { 1.7 } else { 1.0 } * n as f64 / (d as f64).sqrt();
@@ -67,7 +70,7 @@ pub fn numbers(random: &mut Random, param: &mut Param) -> Vec<i128> {
         return numbers;
     }
     if way == 6 {
-        let numbers = if d < 5 { wrapping(random, d) } else { completed(random, d, param.f) };
+        let numbers = if d < 5 || random.once_in(2) { wrapping(random, d) } else { completed(random, d, param.f) };
         let more = if random.once_in(2) { params::allowed(random, N) } else { 0 };
         param.n = root(random, &numbers, 0).max(more);
         return numbers;
@@ -78,6 +81,12 @@ pub fn numbers(random: &mut Random, param: &mut Param) -> Vec<i128> {
 /// A v that wraps.
 fn wrapping(random: &mut Random, d: usize) -> Vec<i128> {
     let mut numbers: Vec<i128> = (0..d).map(|_| small(random, 2)).collect();
+    if random.once_in(4) {
+        let wrapping = random.pick(&WRAPPING);
+        // the squares of 16 add up to 2^128, if it is 2^62
+        numbers.iter_mut().take(16).for_each(|x| *x = signed(random, wrapping));
+        return numbers;
+    }
     for _ in 0..random.between(1, 2) {
         let wrapping = random.pick(&WRAPPING);
         numbers[random.index(d)] = signed(random, wrapping);
