@@ -1,41 +1,55 @@
 """Cases on aggregates: merge, accumulate, subtract, unmerge, aggregate, unshard; and lists of such calls.
 
-The original takes nothing out of an aggregate. What subtract and unmerge give is worked out here, in whole numbers.
+What they give is worked out here, in whole numbers: for subtract and unmerge, since the original takes nothing out of an
+aggregate, and for all of them with later inputs.
 """
 
+import functools
 import itertools
+import math
 from typing import Callable, NamedTuple
 
-from common import (BROKEN, HALF, INPUTS, OK, P, TOP, Case, Inputs, Kind, below, changed, combined, damage, draw_small,
-                    element, elements, faults, first, first_rule, lent, near, refused, resized, rule_7, rule_12, vec)
+from common import (BROKEN, HALF, INPUTS, OK, P, TOP, Case, Inputs, Kind, below, bits_of, case_of, changed, combined, damage,
+                    draw_small, element, elements, faults, first, first_rule, lent, near, patterns, refused, resized, rule_7,
+                    rule_12, vec)
 from singles import TOPS, tie
 
 
 TAKING = ("subtract", "unmerge")
 
 
+def added(agg, share, sign=1):
+    return [(a + sign * b) % P for a, b in zip(agg, share)]
+
+
 def adding(kind, inputs, agg, share):
     """merge, accumulate, subtract or unmerge. The aggregate is argument and result, so no other row is lent."""
-    want = first(refused(first_rule(*inputs)), rule_7((len(agg), inputs.d), (len(share), inputs.d)), rule_12(agg, share))
-    if want == OK and kind in TAKING:
-        want = f"{OK} {vec([(a - b) % P for a, b in zip(agg, share)])}"
-    return Case(kind, f"{kind} {inputs} {vec(agg)} {vec(share)}", want)
+    want = first(refused(first_rule(inputs)), rule_7((len(agg), inputs.d), (len(share), inputs.d)), rule_12(agg, share))
+    sign = -1 if kind in TAKING else 1
+    return case_of(kind, inputs, f" {vec(agg)} {vec(share)}", want, lambda: vec(added(agg, share, sign)), kind in TAKING)
 
 
 def aggregate(inputs, rows, out=()):
     """The empty aggregate, then each row added to it: what the first refused call says."""
     row = out[0] if out else inputs.d
-    want = first(refused(first_rule(*inputs)), rule_7((row, inputs.d)))
+    want = first(refused(first_rule(inputs)), rule_7((row, inputs.d)))
     agg = [0] * inputs.d if want == OK else []
     want = first(want, *(first(rule_7((len(agg), inputs.d), (len(share), inputs.d)), rule_12(agg, share)) for share in rows))
-    return Case("aggregate", f"aggregate {inputs} {' '.join([str(len(rows)), *map(vec, rows)])}{lent(out)}", want)
+    return case_of("aggregate", inputs, f" {' '.join([str(len(rows)), *map(vec, rows)])}{lent(out)}", want,
+                   lambda: vec(functools.reduce(added, rows, agg)))
+
+
+def decoded_to(y, f):
+    """The bits of the nearest double to the centred y, divided by 2^f."""
+    return bits_of(math.ldexp(float(y if y <= HALF else y - P), -f))
 
 
 def unshard(inputs, left, right, out=()):
     decoded = out[0] if out else inputs.d
-    want = first(refused(first_rule(*inputs)), rule_7(*((n, inputs.d) for n in (len(left), len(right), decoded))),
+    want = first(refused(first_rule(inputs)), rule_7(*((n, inputs.d) for n in (len(left), len(right), decoded))),
                  rule_12(left, right))
-    return Case("unshard", f"unshard {inputs} {vec(left)} {vec(right)}{lent(out)}", want)
+    return case_of("unshard", inputs, f" {vec(left)} {vec(right)}{lent(out)}", want,
+                   lambda: patterns([decoded_to(y, inputs.f) for y in added(left, right)]))
 
 
 # Sums where the sign, the digits of a double or the field turn.
@@ -76,7 +90,7 @@ def other_len(rng, length):
 def draw_out(rng, inputs, lengths, wrong):
     """The lent rows' lengths: derived, and most often not named; wrong; or any, where the inputs are refused anyway."""
     lengths = list(lengths)
-    if first_rule(*inputs):
+    if first_rule(inputs):
         return [below(rng, 13) for _ in lengths] if rng.getrandbits(1) else []
     if wrong:
         i = below(rng, len(lengths))
@@ -86,16 +100,16 @@ def draw_out(rng, inputs, lengths, wrong):
 
 
 def draw_adding(kind):
-    def draw(rng):
+    def draw(rng, later=None):
         wrong = faults(rng, [*INPUTS, "left", "right", "element", "element"])
-        inputs = draw_small(rng, wrong)
+        inputs = draw_small(rng, wrong, later)
         return adding(kind, inputs, *two_rows(rng, inputs, wrong, -1 if kind in TAKING else 1))
     return draw
 
 
-def draw_aggregate(rng):
+def draw_aggregate(rng, later=None):
     wrong = faults(rng, [*INPUTS, "row", "row", "element", "element", "out"])
-    inputs = draw_small(rng, wrong)
+    inputs = draw_small(rng, wrong, later)
     length = inputs.d if inputs.d <= 64 else 3
     rows = [elements(rng, length) for _ in range(below(rng, 6))]
     for name in wrong:
@@ -108,9 +122,9 @@ def draw_aggregate(rng):
     return aggregate(inputs, rows, draw_out(rng, inputs, (inputs.d,), "out" in wrong))
 
 
-def draw_unshard(rng):
+def draw_unshard(rng, later=None):
     wrong = faults(rng, [*INPUTS, "left", "right", "element", "element", "out"])
-    inputs = draw_small(rng, wrong)
+    inputs = draw_small(rng, wrong, later)
     return unshard(inputs, *two_rows(rng, inputs, wrong), draw_out(rng, inputs, (inputs.d,), "out" in wrong))
 
 

@@ -2,14 +2,14 @@
 
 A case is a line to ask, and what must be answered to it:
 
-    OK                       document 01 accepts it: the original's own `ok ..` line, whatever that is
-    ok VEC                   the same, of subtract, unmerge and a part of a full vector, which the original has no call for
-    refused NUMBER PLACE     document 01 refuses it, by the first rule broken
+    OK                       it is accepted: the original's own `ok ..` line, whatever that is
+    ok ..                    the same, worked out here: of subtract, unmerge and a part of a full vector, which the original
+                             has no call for, and of a case with later inputs
+    refused NUMBER PLACE     it is refused, by the first rule broken
     bad                      the line is malformed
     nothing                  a blank line or a comment, which has no answer
 
-Only refusals, what is taken out and the parts are worked out here. What any other accepted case gives is known to the
-original alone.
+What any other accepted case gives is known to the original alone.
 
 A kind of case is one entry of KINDS: `draw(rng)` gives one random case; `limits()`, if there is one, lists the
 few hundred that belong in the gate's list; `sweep()` the many that are run only when all edges are asked for.
@@ -21,12 +21,16 @@ import random
 
 import aggregates
 import circuits
+import multiplier
 import parts
 import reports
 import singles
+import test_rule
+import true_length
 from common import BAD, NONE, OK, TOP, Case, below
 
-KINDS = {**singles.KINDS, **reports.KINDS, **circuits.KINDS, **parts.KINDS, **aggregates.KINDS}
+KINDS = {**singles.KINDS, **reports.KINDS, **circuits.KINDS, **parts.KINDS, **aggregates.KINDS, **multiplier.KINDS,
+         **test_rule.KINDS, **true_length.KINDS}
 
 
 # Malformed lines, and lines without an answer
@@ -38,32 +42,54 @@ NOT_DECIMAL = ("a", "ff", "1f", "0x1")
 COUNTED = ("merge", "accumulate", "aggregate", "unshard", "encode", "wrtests", *aggregates.TAKING, *parts.KINDS)
 
 
+def spoil_later(rng, words):
+    """The words of the later inputs with one damage."""
+    way = below(rng, 3)
+    at = 1 + below(rng, 2 if way == 0 else 4)
+    if way == 0:    # the multiplier's numbers have 16 bits
+        more = [str(int(words[at]) + (1 << rng.choice((16, 17, 32, 64, 128))))]
+    elif way == 1:
+        more = [rng.choice(NONSENSE + NOT_DECIMAL)]
+    else:
+        more = []
+    return [*words[:at], *more, *words[at + 1:]]
+
+
 def spoil(rng, case):
     """The case with one damage, so that its line is malformed."""
     words = case.line.partition(" out ")[0].split(" ")
-    way = below(rng, 7)
+    if words[0] != "with":
+        words = spoil_words(rng, words)
+    elif rng.getrandbits(1):
+        words = [*spoil_later(rng, words[:5]), *words[5:]]
+    else:
+        words = [*words[:5], *spoil_words(rng, words[5:])]
+    return Case(case.kind, " ".join(words), BAD)
+
+
+def spoil_words(rng, words):
+    kind, way = words[0], below(rng, 7)
     if way == 0:
         words = words[:rng.randrange(1, len(words))]
     elif way == 1:
         words += [str(below(rng, 3))] * rng.randrange(1, 4)
     elif way == 2:
-        name = words[0]
-        words[0] = rng.choice((name[:-1], name + "s", name.upper(), name.capitalize(), "x", "0", "-"))
+        words[0] = rng.choice((kind[:-1], kind + "s", kind.upper(), kind.capitalize(), "x", "0", "-"))
     elif way == 3:
         at = rng.randrange(1, len(words))
         words[at] = rng.choice([word for word in NONSENSE if word != "-"])     # which stands for no bytes
-    elif way == 4 and len(words) > 8 and case.kind in COUNTED:
+    elif way == 4 and len(words) > 8 and kind in COUNTED:
         words[8] = str(rng.choice((2**32, 2**63, TOP)) + below(rng, 2) * below(rng, 9) - 9)
     else:
         at = rng.randrange(1, min(len(words), 8))   # the first seven after the name are numbers in every kind
-        hexadecimal = at == 2 and case.kind in ("coord", "decode")
+        hexadecimal = at == 2 and kind in ("coord", "decode")
         if way == 5:
             words[at] = rng.choice(NONSENSE if hexadecimal else NONSENSE + NOT_DECIMAL)
         elif hexadecimal:
             words[at] = f"{int(words[at], 16) + (1 << rng.choice((64, 65, 68, 128))):x}"
         else:
             words[at] = str(int(words[at]) + (1 << rng.choice((64, 65, 68, 128))))
-    return Case(case.kind, " ".join(words), BAD)
+    return words
 
 
 def silent(line=""):

@@ -1,9 +1,9 @@
 """What the kinds of case share: document 01's limits, lengths and rules, and ways to draw numbers and rows.
 
-Lengths, and what rules 10, 11 and 17 ask, are worked out here from document 01 and used for refusals only; the lengths
-also for the parts of a full vector, which the original does not hand back.
+Lengths, and what rules 10, 11, 17, 20 and 21 ask, are worked out here from documents 01 and 02 alone.
 """
 
+import functools
 import itertools
 import math
 import random
@@ -23,6 +23,7 @@ class Case(NamedTuple):
     kind: str
     line: str
     want: str
+    plain: str = ""     # with later inputs that change nothing: the line without them, which the original is asked
 
 
 class Kind(NamedTuple):
@@ -93,7 +94,21 @@ def broken(rng, name):
             return x
 
 
-# The seven inputs, and what document 01 derives from them
+# The inputs, and what is derived from them
+
+class Later(NamedTuple):
+    """Document 02's inputs, written before a case: the multiplier, the test rule, the switch for the true length."""
+    num: int = 87
+    den: int = 10
+    rule: int = 0
+    switch: int = 0
+
+    def __str__(self):
+        return "with " + " ".join(map(str, self))
+
+
+RUST = Later()
+
 
 class Inputs(NamedTuple):
     n: int
@@ -103,9 +118,15 @@ class Inputs(NamedTuple):
     e: int
     T: int
     K: int
+    later: Later | None = None      # the Rust's, where none are written
+
+    @property
+    def setting(self):
+        return self.later or RUST
 
     def __str__(self):
-        return " ".join(map(str, self))
+        """The seven of document 01."""
+        return " ".join(map(str, self[:7]))
 
 
 class Sizes(NamedTuple):
@@ -119,20 +140,31 @@ class Sizes(NamedTuple):
     measurement: int
     full: int
 
+    def in_range(self, result):
+        """Of a test's result, centred."""
+        return -self.test_bound < result <= self.test_bound
+
 
 def sizes(inputs):
     n, d, t = inputs.n, inputs.d, inputs.T
+    later = inputs.setting
     bits = (n * n).bit_length()
-    test_bound = 1 << (-(-87 * n // 10)).bit_length()
+    test_bound = 1 << (-(-later.num * n // max(later.den, 1))).bit_length()
     test_bits = (2 * test_bound - 1).bit_length()
     checked = 2 * bits + (1 + test_bits) * t
     per_test = -(-d // 4)
     return Sizes(n * n, bits, test_bound, test_bits, checked, per_test, t * per_test, d + checked, d + checked + t)
 
 
-# The last n before n x n gets one more binary digit or the test bound doubles, and the first n after.
-STEPS = sorted({n for k in range(64) for last in (math.isqrt(2**k - 1), 10 * (2**k - 1) // 87)
-                for n in (last, last + 1) if within("n", n)})
+@functools.lru_cache
+def steps(later):
+    """The last n before n x n gets one more binary digit or the test bound doubles, and the first n after."""
+    num, den = max(later.num, 1), later.den
+    return sorted({n for k in range(64) for last in (math.isqrt(2**k - 1), den * (2**k - 1) // num)
+                   for n in (last, last + 1) if within("n", n)})
+
+
+STEPS = steps(RUST)
 
 
 def chunk(rng, length):
@@ -150,16 +182,16 @@ def successes(rng, t, wrong):
     return min(k, TOP)
 
 
-def draw_inputs(rng, wrong=""):
-    """Seven inputs, of which those named in `wrong` break their rule."""
+def draw_inputs(rng, wrong="", later=None):
+    """Seven inputs, of which those named in `wrong` break their rule, and the later ones given."""
     def pick(name):
         return broken(rng, name) if name in wrong else allowed(rng, name)
-    n = rng.choice(STEPS) if "n" not in wrong and below(rng, 3) == 0 else pick("n")
+    n = rng.choice(steps(later or RUST)) if "n" not in wrong and below(rng, 3) == 0 else pick("n")
     d, f, t = pick("d"), pick("f"), pick("T")
-    length = sizes(Inputs(n, d, f, 1, 1, t, 0)).checked if rng.getrandbits(1) else t
+    length = sizes(Inputs(n, d, f, 1, 1, t, 0, later)).checked if rng.getrandbits(1) else t
     c = broken(rng, "c") if "c" in wrong else chunk(rng, length)
     e = broken(rng, "e") if "e" in wrong else chunk(rng, d)
-    return Inputs(n, d, f, c, e, t, successes(rng, t, "K" in wrong))
+    return Inputs(n, d, f, c, e, t, successes(rng, t, "K" in wrong), later)
 
 
 # Outside the limits, and still no more than the original can find memory for.
@@ -167,19 +199,22 @@ OUTSIDE = {"n": (0, 3037000500, 2**32 - 1, 2**32, 2**63, TOP), "d": (0, 0, 0, 65
            "c": (0, 0, 65537), "e": (0, 0, 65537), "T": (0, 0, 257)}
 
 
-def draw_small(rng, wrong=(), d=0, n=0):
-    """As draw_inputs, with few coordinates and tests, for a call that has rows; d and n may be given."""
-    n = rng.choice(OUTSIDE["n"]) if "n" in wrong else n or (rng.choice(STEPS) if rng.getrandbits(1) else allowed(rng, "n"))
+def draw_small(rng, wrong=(), later=None, d=0):
+    """As draw_inputs, with few coordinates and tests, for a call that has rows; d may be given."""
+    if "n" in wrong:
+        n = rng.choice(OUTSIDE["n"])
+    else:
+        n = rng.choice(steps(later or RUST)) if rng.getrandbits(1) else allowed(rng, "n")
     if "d" in wrong:
         d = rng.choice(OUTSIDE["d"])
     elif not d:
         d = 1 + below(rng, 9 if below(rng, 4) else 24)
     f = rng.choice(OUTSIDE["f"]) if "f" in wrong else below(rng, 31) if rng.getrandbits(1) else 0
     t = rng.choice(OUTSIDE["T"]) if "T" in wrong else 1 + below(rng, 3 if below(rng, 4) else 9)
-    checked = sizes(Inputs(n, d, f, 1, 1, t, 0)).checked
+    checked = sizes(Inputs(n, d, f, 1, 1, t, 0, later)).checked
     c = rng.choice(OUTSIDE["c"]) if "c" in wrong else small_chunk(rng, (checked, checked, t))
     e = rng.choice(OUTSIDE["e"]) if "e" in wrong else small_chunk(rng, (d,))
-    return Inputs(n, d, f, c, e, t, successes(rng, t, "K" in wrong))
+    return Inputs(n, d, f, c, e, t, successes(rng, t, "K" in wrong), later)
 
 
 def small_chunk(rng, lengths):
@@ -205,8 +240,9 @@ def refused(rule, place=0):
     return f"refused {rule} {place}" if rule else OK
 
 
-def first_rule(n, d, f, c, e, t, k):
-    """The first of rules 1 to 6 that the seven inputs break, 0 for none."""
+def first_rule(inputs):
+    """The first of rules 1 to 6 and 19 that the inputs break, 0 for none."""
+    n, d, f, c, e, t, k, later = inputs
     if k > t:
         return 1
     if not within("n", n):
@@ -219,6 +255,8 @@ def first_rule(n, d, f, c, e, t, k):
         return 5
     if not within("T", t):
         return 6
+    if later and 0 in later[:2]:
+        return 19
     return 0
 
 
@@ -265,6 +303,17 @@ def octets(stream):
 def lent(out):
     """The lengths of lent rows, where a case names them."""
     return " out " + " ".join(map(str, out)) if out else ""
+
+
+def case_of(kind, inputs, rest, want, given, worked_out=False):
+    """A case of the inputs. What `given` works out, an accepted one must give where the original has no such call and
+    where later inputs are written; it is held to the original too, if it has the call and the multiplier is the Rust's."""
+    plain = f"{kind} {inputs}{rest}"
+    if want == OK and (worked_out or inputs.later):
+        want = f"{OK} {given()}"
+    if inputs.later is None:
+        return Case(kind, plain, want)
+    return Case("with", f"{inputs.later} {plain}", want, plain if inputs.later[:2] == RUST[:2] and not worked_out else "")
 
 
 # Doubles
@@ -348,7 +397,7 @@ def combined(faulty):
 
 def changed(inputs, changes):
     """The inputs with those changes that are of inputs."""
-    return inputs._replace(**{name: x for name, x in changes.items() if name in INPUTS})
+    return inputs._replace(**{name: x for name, x in changes.items() if name in Inputs._fields})
 
 
 def faults(rng, names):

@@ -1,9 +1,9 @@
 """Cases of the parts of a full vector: gradient_part, checked_part, results_part.
 
-The original has no such call. What an accepted case gives is cut here, by document 01's lengths.
+The original has no such call. What an accepted case gives is cut here, by the derived lengths.
 """
 
-from common import (BROKEN, INPUTS, OK, P, STEPS, TOP, Case, Inputs, Kind, changed, combined, faults, first, first_rule,
+from common import (BROKEN, INPUTS, P, STEPS, TOP, Inputs, Kind, case_of, changed, combined, faults, first, first_rule,
                     refused, rule_7, rule_12, sizes, vec)
 from circuits import draw_parts
 
@@ -17,11 +17,9 @@ ENDS = {
 
 def part(kind, inputs, full):
     size = sizes(inputs)
-    want = first(refused(first_rule(*inputs)), rule_7((len(full), size.full)), rule_12(full))
-    if want == OK:
-        start, end = ENDS[kind](inputs, size)
-        want = f"{OK} {vec(full[start:end])}"
-    return Case(kind, f"{kind} {inputs} {vec(full)}", want)
+    want = first(refused(first_rule(inputs)), rule_7((len(full), size.full)), rule_12(full))
+    start, end = ENDS[kind](inputs, size)
+    return case_of(kind, inputs, f" {vec(full)}", want, lambda: vec(full[start:end]), worked_out=True)
 
 
 def counted(inputs):
@@ -73,8 +71,8 @@ def sweep(kind):
 
 
 def draw(kind):
-    def case(rng):
-        inputs, _, full = draw_parts(rng, faults(rng, [*INPUTS, "full", "full", "element", "element"]))
+    def case(rng, later=None):
+        inputs, _, full = draw_parts(rng, faults(rng, [*INPUTS, "full", "full", "element", "element"]), later)
         return part(kind, inputs, full)
     return case
 

@@ -4,16 +4,33 @@ import itertools
 import math
 
 from common import (EXPONENT, HALF, INPUTS, LIMITS, P, SIGN, STEPS, TOP, Case, Inputs, Kind, allowed, below, bits_of, broken,
-                    clamp, coordinate_rule, draw_inputs, first_rule, near, refused, sizes, within)
+                    case_of, clamp, coordinate_rule, draw_inputs, first_rule, near, refused, sizes, within)
 
 # params
 
+def circuit_lengths(arity, calls, joint_rand):
+    """Of a circuit whose one gadget, of degree 2, is called so often."""
+    points = 1 << calls.bit_length()
+    return (f"gadget_calls {calls} proof_len {arity + 2 * (points - 1) + 1} verifier_len {arity + 2} "
+            f"joint_rand_len {joint_rand} prove_rand_len {arity} query_rand_len 1")
+
+
+def record(inputs):
+    size = sizes(inputs)
+    main = circuit_lengths(2 * inputs.c, -(-size.checked // inputs.c) - (-inputs.T // inputs.c), 3)
+    norm = circuit_lengths(inputs.e, -(-inputs.d // inputs.e), 0)
+    return (f"sq_norm_bound {size.bound:x} sq_norm_bits {size.bits} wr_test_bound {size.test_bound:x} "
+            f"wr_test_bits {size.test_bits} bit_checked_len {size.checked} encoded_input_len {size.measurement} "
+            f"input_len {size.full} main {main} eq {norm}")
+
+
 def params(*inputs):
-    return Case("params", "params " + " ".join(map(str, inputs)), refused(first_rule(*inputs)))
+    inputs = Inputs(*inputs)
+    return case_of("params", inputs, "", refused(first_rule(inputs)), lambda: record(inputs))
 
 
-def draw_params(rng):
-    return params(*draw_inputs(rng, rng.sample(INPUTS, rng.choice((0, 0, 0, 0, 0, 1, 1, 2, 3)))))
+def draw_params(rng, later=None):
+    return params(*draw_inputs(rng, rng.sample(INPUTS, rng.choice((0, 0, 0, 0, 0, 1, 1, 2, 3))), later))
 
 
 PLAIN = {"n": 65536, "d": 1000, "f": 15, "c": 40, "e": 32, "T": 100, "K": 90}

@@ -136,14 +136,13 @@ fn chunks(d: usize, t: usize) -> [(usize, usize); 2] {
     [(1, 1), (root - root % 10, d.isqrt())]
 }
 
-/// The multiplier of the original.
-const ALPHA: [u16; 2] = [87, 10];
-
-/// Its rule of the tests, every one in range, and the switch for the true squared norm off.
-const ORIGINAL: [u8; 2] = [0, 0];
+/// As the original has it: its multiplier, every test in range, no bound of the true norm.
+fn standard(inputs: [u64; 7]) -> Param {
+    Param(inputs, [87, 10], [0, 0])
+}
 
 fn param(d: usize, (c, e): (usize, usize), t: usize) -> Param {
-    Param([NORM_BOUND, d as u64, FRAC_BITS, c as u64, e as u64, t as u64, t as u64], ALPHA, ORIGINAL)
+    standard([NORM_BOUND, d as u64, FRAC_BITS, c as u64, e as u64, t as u64, t as u64])
 }
 
 fn title(name: &str, d: usize, of: &'static str, bytes: usize) -> Title {
@@ -606,7 +605,7 @@ fn field_to_f64() -> Row {
 fn any_param(random: &mut Random) -> Param {
     let mut up_to = |limit: u64| 1 + random.next() % limit;
     let (n, d, f, c, e, t) = (up_to(3_037_000_499), up_to(65536), up_to(30), up_to(65536), up_to(65536), up_to(256));
-    Param([n, d, f, c, e, t, up_to(t)], ALPHA, ORIGINAL)
+    standard([n, d, f, c, e, t, up_to(t)])
 }
 
 fn derive() -> Row {

@@ -108,6 +108,14 @@ impl Row {
         }
     }
 
+    /// What it holds; not for bytes.
+    pub fn words(&self) -> &[u64] {
+        match self {
+            Row::Stream(_) => &[],
+            Row::Doubles(row) | Row::Elements(row) | Row::Aggregate(row) | Row::Written(row) => row,
+        }
+    }
+
     /// The elements that are read.
     pub fn elements(&self) -> &[u64] {
         match self {
@@ -154,7 +162,8 @@ impl Display for Case {
     fn fmt(&self, to: &mut Formatter) -> Result {
         if !self.param.is_standard() {
             let [above, below] = self.param.alpha;
-            write!(to, "with {above} {below} 0 0 ")?;
+            let [rule, switch] = [self.param.lets_miss(), self.param.bounds_true_norm()].map(u8::from);
+            write!(to, "with {above} {below} {rule} {switch} ")?;
         }
         write!(to, "{}", self.call.word())?;
         match self.call {

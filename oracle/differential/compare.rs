@@ -1,10 +1,11 @@
 //! One case put to both, and everything compared.
 
 use crate::{
-    case::Case,
+    case::{Call, Case, Row},
     lent::Lent,
     original,
     ours::{self, Given},
+    param::{Param, P},
     random::Random,
     rules::{self, Answer, ACCEPTED},
 };
@@ -16,11 +17,13 @@ pub struct Same {
     pub compared: usize,
     /// Elements that had to stay.
     pub unchanged: usize,
+    /// The rows that an accepted call wrote.
+    pub written: Vec<Vec<u64>>,
 }
 
 type Outcome = Result<(), String>;
 
-fn equal(what: &str, ours: &[u64], wanted: &[u64]) -> Outcome {
+pub fn equal(what: &str, ours: &[u64], wanted: &[u64]) -> Outcome {
     if ours.len() != wanted.len() {
         return Err(format!("{what}: ours has {} elements, wanted {}", ours.len(), wanted.len()));
     }
@@ -44,7 +47,7 @@ fn len_of(rows: &[(usize, &Lent)]) -> usize {
 fn refused(answer: Answer, given: &Given, rows: &[(usize, &Lent)]) -> Result<Same, String> {
     equal("the values beside a refusal", &given.values, &vec![0; given.values.len()])?;
     unchanged(rows)?;
-    Ok(Same { answer, compared: 0, unchanged: len_of(rows) })
+    Ok(Same { answer, compared: 0, unchanged: len_of(rows), written: vec![] })
 }
 
 fn accepted(case: &Case, given: &Given, rows: &[(usize, &Lent)]) -> Result<Same, String> {
@@ -59,15 +62,15 @@ fn accepted(case: &Case, given: &Given, rows: &[(usize, &Lent)]) -> Result<Same,
         }
     }
     unchanged(&read)?;
-    Ok(Same { answer: ACCEPTED, compared: given.values.len() + len_of(&written), unchanged: len_of(&read) })
+    let (compared, unchanged) = (given.values.len() + len_of(&written), len_of(&read));
+    Ok(Same { answer: ACCEPTED, compared, unchanged, written: original.rows })
 }
 
-/// What was the same, or both answers and the first difference.
-pub fn compare(random: &mut Random, case: &Case) -> Result<Same, String> {
+/// What was the same, or both answers and the first difference. The rows lent hold what the case's do.
+pub fn compare_on(rows: &mut [Lent], case: &Case) -> Result<Same, String> {
     let answer = rules::answer(case);
-    let mut rows: Vec<Lent> = case.rows.iter().map(|row| Lent::new(random, row)).collect();
-    let given = ours::call(case, &mut rows);
-    let rows: Vec<(usize, &Lent)> = (1..).zip(&rows).collect();
+    let given = ours::call(case, rows);
+    let rows: Vec<(usize, &Lent)> = (1..).zip(&*rows).collect();
     let found = if given.answer != answer {
         Err("the answers differ".into())
     } else if answer == ACCEPTED {
@@ -76,4 +79,29 @@ pub fn compare(random: &mut Random, case: &Case) -> Result<Same, String> {
         refused(answer, &given, &rows)
     };
     found.map_err(|difference| format!("ours {}, by document 01 {answer}; {difference}", given.answer))
+}
+
+fn lend(random: &mut Random, case: &Case) -> Vec<Lent> {
+    case.rows.iter().map(|row| Lent::new(random, row)).collect()
+}
+
+/// On a report that encoding wrote.
+fn circuits_give_zero(random: &mut Random, param: Param, written: &[Vec<u64>]) -> Outcome {
+    let full = || Row::Elements(written.concat());
+    let joint_rand = Row::Elements([0; 3].map(|_| random.next() % P).to_vec());
+    for (call, rows) in [(Call::Valid, vec![full(), joint_rand]), (Call::ValidSqNormEqual, vec![full()])] {
+        let circuit = Case { call, param, number: 1, rows };
+        let given = ours::call(&circuit, &mut lend(random, &circuit));
+        let what = format!("{} of the report, the answer's number and the value", call.name());
+        equal(&what, &[given.answer.number, given.values[0]], &[0, 0])?;
+    }
+    Ok(())
+}
+
+pub fn compare(random: &mut Random, case: &Case) -> Result<Same, String> {
+    let same = compare_on(&mut lend(random, case), case)?;
+    if case.call == Call::Encode && same.answer == ACCEPTED {
+        circuits_give_zero(random, case.param, &same.written)?;
+    }
+    Ok(same)
 }

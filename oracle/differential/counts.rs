@@ -5,12 +5,12 @@ use crate::{
     compare::Same,
 };
 
-const RULES: [usize; 15] = [1, 2, 3, 4, 5, 6, 7, 8, 9, 10, 11, 12, 13, 17, 19];
+const RULES: [usize; 17] = [1, 2, 3, 4, 5, 6, 7, 8, 9, 10, 11, 12, 13, 17, 19, 20, 21];
 
 #[derive(Clone, Copy, Default)]
 struct Count {
     /// By the answer's number.
-    answers: [u64; 20],
+    answers: [u64; 22],
     compared: u64,
     unchanged: u64,
 }
@@ -49,9 +49,14 @@ impl Counts {
         self.0[call as usize].add(&one);
     }
 
-    pub fn show(&self) {
+    /// Says where the calls were; nothing where there were none.
+    pub fn show(&self, title: &str) {
         let mut all = Count::default();
         self.0.iter().for_each(|count| all.add(count));
+        if all.calls() == 0 {
+            return;
+        }
+        println!("\n{} calls {title}:\n", grouped(all.calls()));
         let rules = RULES.map(|rule| format!(" {rule} |"));
         println!("| call | calls | accepted |{} elements compared | elements unchanged |", rules.concat());
         println!("|---|{}", "---:|".repeat(RULES.len() + 4));

@@ -49,6 +49,11 @@ impl Lent {
         &self.memory[self.start / 8..][..self.len]
     }
 
+    /// From here on the row is to stay as it is now.
+    pub fn settle(&mut self) {
+        self.before.clone_from(&self.memory);
+    }
+
     /// Whether the row and its guards are as they were.
     pub fn is_unchanged(&self) -> bool {
         self.memory == self.before

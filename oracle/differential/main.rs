@@ -2,14 +2,15 @@
 //!
 //!     pine-differential [--seed S] [--count N] [--call NAME].. [--only INDEX]
 //!
-//! N calls, of the names given or of all. The seed and its index alone decide a case; --only tries one. It stops at
-//! the first difference with status 1.
+//! N cases, of the names given or of all: a call, or a history of calls. The seed and its index alone decide a case;
+//! --only tries one. It stops at the first difference with status 1.
 
 mod at_hand;
 mod case;
 mod compare;
 mod counts;
 mod draw;
+mod history;
 mod lent;
 mod options;
 mod original;
@@ -20,9 +21,10 @@ mod rules;
 mod whole;
 
 use at_hand::profile;
-use case::{Call, Case, CALLS};
+use case::{Case, CALLS};
 use compare::{compare, Same};
 use counts::{grouped, Counts};
+use history::History;
 use options::Options;
 use random::Random;
 use std::{
@@ -30,20 +32,49 @@ use std::{
     time::{Duration, Instant},
 };
 
-/// The case of this index, if it is one of these calls, and what is left to draw from.
-fn drawn(seed: u64, index: u64, calls: &[Call]) -> Option<(Case, Random)> {
-    at_hand::set(seed, index);
-    let mut random = Random::of_case(seed, index);
-    let call = random.pick(&CALLS);
-    calls.contains(&call).then(|| (draw::case(&mut random, call), random))
+enum Drawn {
+    Call(Case),
+    History(History),
 }
 
-fn tried(case: &Case, random: &mut Random) -> Same {
-    compare(random, case).unwrap_or_else(|difference| {
+/// One case in so many is a history.
+const HISTORIES: u64 = 32;
+
+/// The case of this index, if it is one of those named, and what is left to draw from.
+fn drawn(options: &Options, index: u64) -> Option<(Drawn, Random)> {
+    at_hand::set(options.seed, index);
+    let mut random = Random::of_case(options.seed, index);
+    if index % HISTORIES == HISTORIES - 1 {
+        return options.histories.then(|| (Drawn::History(History::new(&mut random)), random));
+    }
+    let call = random.pick(&CALLS);
+    options.calls.contains(&call).then(|| (Drawn::Call(draw::case(&mut random, call)), random))
+}
+
+/// Where it is to be shown, the line comes first, since the case may end the process.
+fn tried(case: &Case, shown: bool, attempt: impl FnOnce() -> Result<Same, String>) -> Same {
+    if shown {
+        println!("{case}");
+    }
+    let same = attempt().unwrap_or_else(|difference| {
         at_hand::say(&format!("{}: {difference}", case.call.name()));
         println!("case: {case}");
         exit(1)
-    })
+    });
+    if shown {
+        println!("{}: {}: {}, no difference", profile(), case.call.name(), same.answer);
+    }
+    same
+}
+
+fn play(mut history: History, random: &mut Random, shown: bool, counts: &mut Counts) {
+    while let Some(step) = history.next(random) {
+        counts.add(step.case.call, &tried(&step.case, shown, || history.make(random, &step)));
+    }
+    if let Err(difference) = history.is_tallied() {
+        at_hand::say(&format!("history: {difference}"));
+        exit(1)
+    }
 }
 
 struct Progress {
@@ -59,7 +90,7 @@ impl Progress {
         self.shown = Instant::now();
         at_hand::goes_on();
         let speed = made as f64 / self.begin.elapsed().as_secs_f64();
-        eprintln!("{}: {} of {}, {speed:.0} calls a second", profile(), grouped(made), grouped(count));
+        eprintln!("{}: {} of {}, {speed:.0} cases a second", profile(), grouped(made), grouped(count));
     }
 }
 
@@ -67,24 +98,32 @@ fn try_all(options: &Options) {
     let (seed, count) = (options.seed, options.count);
     let begin = Instant::now();
     let mut progress = Progress { begin, shown: begin };
-    let mut counts = Counts::default();
-    let cases = (0..).filter_map(|index| drawn(seed, index, &options.calls));
-    for (made, (case, mut random)) in (1..=count).zip(cases) {
-        counts.add(case.call, &tried(&case, &mut random));
+    let (mut counts, mut in_histories, mut histories) = (Counts::default(), Counts::default(), 0);
+    let cases = (0..).filter_map(|index| drawn(options, index));
+    for (made, (drawn, mut random)) in (1..=count).zip(cases) {
+        match drawn {
+            Drawn::Call(case) => counts.add(case.call, &tried(&case, false, || compare(&mut random, &case))),
+            Drawn::History(history) => {
+                histories += 1;
+                play(history, &mut random, false, &mut in_histories)
+            }
+        }
         progress.show(made, count);
     }
-    let (calls, seconds) = (grouped(count), begin.elapsed().as_secs());
-    println!("{}, seed {seed}: {calls} calls, no difference, {seconds} seconds", profile());
-    println!();
-    counts.show();
+    let (cases, seconds) = (grouped(count), begin.elapsed().as_secs());
+    println!("{}, seed {seed}: {cases} cases, no difference, {seconds} seconds", profile());
+    counts.show("alone");
+    in_histories.show(&format!("in {} histories", grouped(histories)));
 }
 
-/// The line comes first, since the case may end the process.
-fn try_one(seed: u64, index: u64) {
-    let (case, mut random) = drawn(seed, index, &CALLS).unwrap();
-    println!("{case}");
-    let same = tried(&case, &mut random);
-    println!("{}: {}: {}, no difference", profile(), case.call.name(), same.answer);
+fn try_one(options: &Options, index: u64) {
+    let (drawn, mut random) = drawn(options, index).unwrap();
+    match drawn {
+        Drawn::Call(case) => {
+            tried(&case, true, || compare(&mut random, &case));
+        }
+        Drawn::History(history) => play(history, &mut random, true, &mut Counts::default()),
+    }
 }
 
 fn main() {
@@ -93,7 +132,7 @@ fn main() {
     at_hand::goes_on();
     let options = Options::read();
     match options.only {
-        Some(index) => try_one(options.seed, index),
+        Some(index) => try_one(&options, index),
         None => try_all(&options),
     }
 }

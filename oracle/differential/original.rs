@@ -1,9 +1,10 @@
 //! The same calls of the original. What documents 01 and 02 refuse is not put to it. With another multiplier than its own
-//! it is given the test bound that the driver works out.
+//! it is given the test bound that the driver works out, and where tests missed, a stream with which they do not.
 
 use crate::{
     case::{Call, Case, Row},
-    param::Sizes,
+    param::{Param, Sizes, STANDARD},
+    whole,
 };
 use pine_oracle::{
     pine::{opened, Pine64},
@@ -48,18 +49,52 @@ fn words(row: &[Field64]) -> Vec<u64> {
 }
 
 /// The chosen bytes are handed out whatever the seed.
-fn choose(stream: &Row) -> Seed<16> {
-    if let Row::Stream(bytes) = stream {
-        choose_stream(bytes.clone());
-    }
+fn choose(stream: &[u8]) -> Seed<16> {
+    choose_stream(stream.to_vec());
     Seed::get_decoded(&[7; 16]).unwrap()
 }
 
-fn encode(pine: &Pine64, gradient: &Row, stream: &Row) -> Outcome<Given> {
-    let Row::Doubles(gradient) = gradient else { unreachable!() };
+fn run_wr_tests(pine: &Pine64, gradient: &Row, stream: &[u8]) -> Vec<u64> {
+    words(&opened::run_wr_tests(pine, &fields(gradient), &choose(stream)))
+}
+
+fn encode(pine: &Pine64, gradient: &[u64], stream: &[u8]) -> Outcome<Given> {
     let gradient = gradient.iter().map(|x| f64::from_bits(*x));
     let (measurement, results) = pine.flp.encode_with_wr_joint_rand::<ChosenXof, 16>(gradient, &choose(stream))?;
     rows(vec![words(&measurement), words(&results)])
+}
+
+/// Four pairs of bits with which a test adds nothing.
+const NOTHING: u8 = 0x55;
+
+/// The original refuses where a test missed. So it is asked with such tests adding nothing; in the measurement that it
+/// gives they become zeros, and the first K others have the success bits.
+fn encode_with_misses(pine: &Pine64, param: &Param, gradient: &[u64], stream: &[u8]) -> Outcome<Given> {
+    let sizes = Sizes::of(param);
+    let in_range: Vec<bool> = whole::in_range(&whole::floors(gradient, param.f), stream, &sizes).collect();
+    if !in_range.contains(&false) {
+        return encode(pine, gradient, stream);
+    }
+    let mut passing = stream.to_vec();
+    for (bytes, in_range) in passing.chunks_mut(sizes.per_test).zip(&in_range) {
+        if !in_range {
+            bytes.fill(NOTHING);
+        }
+    }
+    let mut given = encode(pine, gradient, &passing)?;
+    let (elements, tests) = given.rows[0].split_at_mut(gradient.len() + 2 * sizes.bits);
+    let mut successes = 0;
+    for (test, in_range) in tests.chunks_mut(sizes.test_bits + 1).zip(&in_range) {
+        if *in_range {
+            test[sizes.test_bits] = u64::from(successes < param.k);
+            successes += 1;
+        } else {
+            test.fill(0);
+        }
+    }
+    let gradient = Row::Elements(elements[..gradient.len()].to_vec());
+    given.rows[1] = run_wr_tests(pine, &gradient, stream);
+    Ok(given)
 }
 
 #[derive(Debug)]
@@ -133,15 +168,15 @@ fn answer(case: &Case) -> Outcome<Given> {
         Call::FieldToF64 => return values(vec![opened::field_to_f64(Field64::from(number), f)?.to_bits()]),
         _ => (),
     }
-    let bound = (!case.param.is_standard()).then(|| Sizes::of(&case.param).test_bound as u64);
+    let bound = (case.param.alpha != STANDARD).then(|| Sizes::of(&case.param).test_bound as u64);
     let pine = opened::new(case.param.inputs(), bound)?;
     match (case.call, &case.rows[..]) {
         (Call::CheckParam, []) => values(vec![]),
         (Call::Derive, []) => values(opened::record(&pine)),
-        (Call::Encode, [gradient, stream, ..]) => encode(&pine, gradient, stream),
-        (Call::RunWrTests, [gradient, stream, _]) => {
-            rows(vec![words(&opened::run_wr_tests(&pine, &fields(gradient), &choose(stream)))])
+        (Call::Encode, [Row::Doubles(gradient), Row::Stream(stream), ..]) => {
+            encode_with_misses(&pine, &case.param, gradient, stream)
         }
+        (Call::RunWrTests, [gradient, Row::Stream(stream), _]) => rows(vec![run_wr_tests(&pine, gradient, stream)]),
         (Call::Valid, [full, joint_rand]) => circuit(&pine.flp, number, full, &fields(joint_rand)),
         (Call::ValidSqNormEqual, [full]) => circuit(&pine.flp_sq_norm_equal, number, full, &[]),
         (Call::GradientPart, [full]) => part(&pine, full, 0),

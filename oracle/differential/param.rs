@@ -21,7 +21,7 @@ pub fn within(x: u64, (low, high): Limits) -> bool {
     low <= x && x <= high
 }
 
-/// n, d, f, c, e, T and K of the papers, and the multiplier; the layout is that of PineParam in include/pine.h.
+/// n, d, f, c, e, T and K of the papers, and document 02's; the layout is that of PineParam in include/pine.h.
 #[repr(C)]
 #[derive(Clone, Copy)]
 pub struct Param {
@@ -32,18 +32,38 @@ pub struct Param {
     pub e: u64,
     pub t: u64,
     pub k: u64,
-    /// The numerator and the denominator.
+    /// The multiplier's numerator and denominator.
     pub alpha: [u16; 2],
+    /// 0 for the first test rule, any other byte for the second.
+    pub test_rule: u8,
+    /// 0 for a bound on the squared norm modulo p alone, any other byte for one on the true norm too.
+    pub true_norm: u8,
 }
 
+const _: () = assert!(size_of::<Param>() == 64);
+
 impl Param {
+    /// For these seven, with document 02's as the original has them.
+    pub fn standard([n, d, f, c, e, t, k]: [u64; 7]) -> Param {
+        Param { n, d, f, c, e, t, k, alpha: STANDARD, test_rule: 0, true_norm: 0 }
+    }
+
     /// Those that the original has.
     pub fn inputs(&self) -> [u64; 7] {
         [self.n, self.d, self.f, self.c, self.e, self.t, self.k]
     }
 
+    /// Whether K tests in range are enough.
+    pub fn lets_miss(&self) -> bool {
+        self.test_rule != 0
+    }
+
+    pub fn bounds_true_norm(&self) -> bool {
+        self.true_norm != 0
+    }
+
     pub fn is_standard(&self) -> bool {
-        self.alpha == STANDARD
+        self.alpha == STANDARD && !self.lets_miss() && !self.bounds_true_norm()
     }
 }
 

@@ -79,24 +79,35 @@ fn rule_13(case: &Case) -> Option<Answer> {
     rule(13, case.call.has_shares() && !within(case.number, SHARES))
 }
 
-fn rules_8_to_11(case: &Case) -> Option<Answer> {
+/// Rule 11, or 20 in its place.
+fn rule_on_tests(param: &Param, sizes: &Sizes, numbers: &[i128], stream: &[u8]) -> Option<Answer> {
+    let mut in_range = whole::in_range(numbers, stream, sizes);
+    if !param.lets_miss() {
+        return rule_at(11, in_range.position(|in_range| !in_range));
+    }
+    let found = in_range.filter(|in_range| *in_range).count();
+    rule_at(20, (found < param.k as usize).then_some(found))
+}
+
+fn rules_on_numbers(param: &Param, numbers: &[i128], stream: &[u8]) -> Option<Answer> {
+    let sizes = Sizes::of(param);
+    let is_long = || whole::true_squared_norm(numbers).is_none_or(|norm| norm > sizes.bound);
+    rule(21, param.bounds_true_norm() && is_long())
+        .or_else(|| rule(10, u128::from(whole::squared_norm(numbers)) > sizes.bound))
+        .or_else(|| rule_on_tests(param, &sizes, numbers, stream))
+}
+
+fn rules_on_gradient(case: &Case) -> Option<Answer> {
     let [Row::Doubles(gradient), Row::Stream(stream), ..] = &case.rows[..] else {
         return None;
     };
-    let sizes = Sizes::of(&case.param);
     let coordinate = |(i, x): (usize, &u64)| {
         whole::coordinate_rule(*x, case.param.f).map(|number| Answer { number, place: i as u64 })
     };
-    gradient
-        .iter()
-        .enumerate()
-        .find_map(coordinate)
+    let rule_8_or_17 = gradient.iter().enumerate().find_map(coordinate);
+    rule_8_or_17
         .or_else(|| rule(9, gradient.len() as u64 != case.param.d))
-        .or_else(|| {
-            let numbers = whole::floors(gradient, case.param.f);
-            rule(10, u128::from(whole::squared_norm(&numbers)) > sizes.bound)
-                .or_else(|| rule_at(11, whole::results(&numbers, stream, &sizes).position(|r| !sizes.in_range(r))))
-        })
+        .or_else(|| rules_on_numbers(&case.param, &whole::floors(gradient, case.param.f), stream))
 }
 
 pub fn answer(case: &Case) -> Answer {
@@ -109,7 +120,7 @@ pub fn answer(case: &Case) -> Answer {
             .or_else(|| rule_7(case))
             .or_else(|| rule_13(case))
             .or_else(|| rule_12(case))
-            .or_else(|| rules_8_to_11(case)),
+            .or_else(|| rules_on_gradient(case)),
     };
     refusal.unwrap_or(ACCEPTED)
 }

@@ -2,6 +2,7 @@
 
 mod damage;
 mod elements;
+mod history;
 mod params;
 mod reports;
 mod singles;
@@ -11,6 +12,7 @@ use crate::{
     param::{Param, Sizes},
     random::Random,
 };
+pub use history::Calls;
 
 fn with_rows(call: Call, param: Param, rows: Vec<Row>) -> Case {
     Case { call, param, number: 0, rows }
@@ -25,7 +27,7 @@ fn encode(random: &mut Random) -> Case {
     let numbers = reports::numbers(random, &mut param);
     let gradient = reports::gradient(random, &numbers, param.f);
     let sizes = Sizes::of(&param);
-    let stream = reports::stream(random, &numbers, &sizes, param.t);
+    let stream = reports::stream(random, &numbers, &sizes, &param);
     let rows = vec![
         Row::Doubles(gradient),
         Row::Stream(stream),
@@ -68,29 +70,30 @@ fn empty_aggregate(random: &mut Random) -> Case {
     with_rows(Call::EmptyAggregate, param, vec![row])
 }
 
-fn two_rows(random: &mut Random) -> (Param, Vec<u64>, Vec<u64>) {
+/// A row whose sums with the first, or differences where it is taken out, are often such that matter.
+fn beside(random: &mut Random, call: Call, left: &[u64]) -> Vec<u64> {
+    let mut right = if random.once_in(16) { left.to_vec() } else { elements::completed(random, left) };
+    if matches!(call, Call::Subtract | Call::Unmerge) && !random.once_in(4) {
+        right.iter_mut().for_each(|x| *x = elements::negated(*x));
+    }
+    right
+}
+
+fn two_rows(random: &mut Random, call: Call) -> (Param, Vec<u64>, Vec<u64>) {
     let param = params::for_rows(random);
     let left = elements::row(random, param.d as usize);
-    let right = if random.once_in(16) { left.clone() } else { elements::completed(random, &left) };
+    let right = beside(random, call, &left);
     (param, left, right)
 }
 
+/// Or taking out.
 fn adding(random: &mut Random, call: Call) -> Case {
-    let (param, agg, share) = two_rows(random);
-    with_rows(call, param, vec![Row::Aggregate(agg), Row::Elements(share)])
-}
-
-/// Two rows whose differences, or sums, are often such that matter.
-fn taking_out(random: &mut Random, call: Call) -> Case {
-    let (param, agg, mut share) = two_rows(random);
-    if !random.once_in(4) {
-        share.iter_mut().for_each(|x| *x = elements::negated(*x));
-    }
+    let (param, agg, share) = two_rows(random, call);
     with_rows(call, param, vec![Row::Aggregate(agg), Row::Elements(share)])
 }
 
 fn unshard(random: &mut Random) -> Case {
-    let (param, left, right) = two_rows(random);
+    let (param, left, right) = two_rows(random, Call::Unshard);
     let decoded = written(random, left.len());
     with_rows(Call::Unshard, param, vec![Row::Elements(left), Row::Elements(right), decoded])
 }
@@ -105,8 +108,7 @@ pub fn case(random: &mut Random, call: Call) -> Case {
         Call::Valid | Call::ValidSqNormEqual => circuit(random, call),
         Call::GradientPart | Call::CheckedPart | Call::ResultsPart => part(random, call),
         Call::EmptyAggregate => empty_aggregate(random),
-        Call::Accumulate | Call::Merge => adding(random, call),
-        Call::Subtract | Call::Unmerge => taking_out(random, call),
+        Call::Accumulate | Call::Merge | Call::Subtract | Call::Unmerge => adding(random, call),
         Call::Unshard => unshard(random),
     };
     for _ in 0..random.pick(&[0, 0, 0, 0, 0, 0, 1, 1, 2, 3]) {

@@ -1,7 +1,7 @@
 //! The inputs.
 
 use crate::{
-    param::{within, Limits, Param, Sizes, ALPHA, CHUNK, D, F, N, P, STANDARD, T},
+    param::{within, Limits, Param, Sizes, ALPHA, CHUNK, D, F, N, P, T},
     random::Random,
 };
 use std::sync::LazyLock;
@@ -99,6 +99,12 @@ fn chunk(random: &mut Random, lengths: &[u64]) -> u64 {
     chunk.clamp(1, 65536)
 }
 
+/// A byte that is 0 or not: 0 in two of three, else most often 1.
+fn choice(random: &mut Random) -> u8 {
+    let any = random.next() as u8;
+    random.pick(&[0, 0, 0, 0, 0, 0, 1, 1, any])
+}
+
 /// Another multiplier, and half of the time a norm bound at which its test bound doubles, or the one before.
 fn multiply(random: &mut Random, param: &mut Param) {
     param.alpha = [0; 2].map(|_| allowed(random, ALPHA) as u16);
@@ -117,7 +123,8 @@ pub fn break_alpha(random: &mut Random, param: &mut Param) {
 }
 
 fn with_chunks(random: &mut Random, n: u64, d: u64, f: u64, t: u64) -> Param {
-    let mut param = Param { n, d, f, c: 1, e: 1, t, k: successes(random, t), alpha: STANDARD };
+    let mut param = Param::standard([n, d, f, 1, 1, t, successes(random, t)]);
+    (param.test_rule, param.true_norm) = (choice(random), choice(random));
     if random.once_in(4) {
         multiply(random, &mut param);
     }
@@ -163,11 +170,26 @@ fn just_beyond(random: &mut Random, param: &mut Param) {
     }
 }
 
+fn with_shape(random: &mut Random, (d, t): (u64, u64)) -> Param {
+    let (n, f) = (norm_bound(random), if random.once_in(2) { 0 } else { random.between(F.0, F.1) });
+    with_chunks(random, n, d, f, t)
+}
+
+/// For calls on rows of one length.
+pub fn dimension(random: &mut Random) -> u64 {
+    shape(random).0
+}
+
+/// For one of these calls.
+pub fn of_dimension(random: &mut Random, d: u64) -> Param {
+    let (_, t) = shape(random);
+    with_shape(random, (d, t))
+}
+
 /// For a call that has rows.
 pub fn for_rows(random: &mut Random) -> Param {
-    let (d, t) = shape(random);
-    let (n, f) = (norm_bound(random), if random.once_in(2) { 0 } else { random.between(F.0, F.1) });
-    let mut param = with_chunks(random, n, d, f, t);
+    let shape = shape(random);
+    let mut param = with_shape(random, shape);
     if random.once_in(128) {
         just_beyond(random, &mut param);
     }

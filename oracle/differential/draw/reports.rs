@@ -37,13 +37,16 @@ fn small(random: &mut Random, most: u64) -> i128 {
     i128::from(random.below(2 * most + 1)) - i128::from(most)
 }
 
-/// Whole numbers whose squares add up to about n x n at most.
+/// Whole numbers whose squares add up to about n x n at most, or to it, or to one more.
 fn in_ball(random: &mut Random, n: u64, d: usize) -> Vec<i128> {
     let way = random.below(4);
     if way == 0 {
         let mut numbers = vec![0; d];
         let edge = i128::from(n - random.below(2));
         numbers[random.index(d)] = signed(random, edge);
+        if random.once_in(4) {
+            numbers[random.index(d)] += 1;
+        }
         return numbers;
     }
     let size = if way == 1 { 1.7 } else { 1.0 } * n as f64 / (d as f64).sqrt();
@@ -67,7 +70,7 @@ pub fn numbers(random: &mut Random, param: &mut Param) -> Vec<i128> {
         return numbers;
     }
     if way == 6 {
-        let numbers = if d < 5 { wrapping(random, d) } else { completed(random, d, param.f) };
+        let numbers = if d < 5 || random.once_in(2) { wrapping(random, d) } else { completed(random, d, param.f) };
         let more = if random.once_in(2) { params::allowed(random, N) } else { 0 };
         param.n = root(random, &numbers, 0).max(more);
         return numbers;
@@ -78,6 +81,12 @@ pub fn numbers(random: &mut Random, param: &mut Param) -> Vec<i128> {
 /// A v that wraps.
 fn wrapping(random: &mut Random, d: usize) -> Vec<i128> {
     let mut numbers: Vec<i128> = (0..d).map(|_| small(random, 2)).collect();
+    if random.once_in(4) {
+        let wrapping = random.pick(&WRAPPING);
+        // the squares of 16 add up to 2^128, if it is 2^62
+        numbers.iter_mut().take(16).for_each(|x| *x = signed(random, wrapping));
+        return numbers;
+    }
     for _ in 0..random.between(1, 2) {
         let wrapping = random.pick(&WRAPPING);
         numbers[random.index(d)] = signed(random, wrapping);
@@ -136,9 +145,9 @@ pub fn any_stream(random: &mut Random, len: usize) -> Vec<u8> {
     random.bytes(len)
 }
 
-/// A pair of bits that mostly passes over a number beyond the test bound.
-fn pair(random: &mut Random, number: &i128, sizes: &Sizes) -> u8 {
-    if !sizes.in_range(*number) && !random.once_in(16) {
+/// A pair of bits that mostly passes over a number beyond the test bound, and less so where a test may miss.
+fn pair(random: &mut Random, number: &i128, sizes: &Sizes, param: &Param) -> u8 {
+    if !sizes.in_range(*number) && !random.once_in(if param.lets_miss() { 3 } else { 16 }) {
         random.pick(&[1, 2])
     } else {
         random.below(4) as u8
@@ -146,16 +155,16 @@ fn pair(random: &mut Random, number: &i128, sizes: &Sizes) -> u8 {
 }
 
 /// Where there are numbers beyond the test bound, most streams pass over them.
-pub fn stream(random: &mut Random, numbers: &[i128], sizes: &Sizes, t: u64) -> Vec<u8> {
+pub fn stream(random: &mut Random, numbers: &[i128], sizes: &Sizes, param: &Param) -> Vec<u8> {
     if random.once_in(4) || numbers.iter().all(|x| sizes.in_range(*x)) {
         return any_stream(random, sizes.stream);
     }
     let mut stream = Vec::with_capacity(sizes.stream);
-    for _ in 0..t {
+    for _ in 0..param.t {
         for four in numbers.chunks(4) {
             let mut byte = random.next() as u8;
             for (i, number) in four.iter().enumerate() {
-                byte = byte & !(3 << (2 * i)) | pair(random, number, sizes) << (2 * i);
+                byte = byte & !(3 << (2 * i)) | pair(random, number, sizes, param) << (2 * i);
             }
             stream.push(byte);
         }

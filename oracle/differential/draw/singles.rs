@@ -6,7 +6,7 @@ use crate::{
         elements::{negated, tie, HALF},
         params,
     },
-    param::{Param, F, P, STANDARD},
+    param::{Param, F, P},
     random::Random,
     whole::{EXPONENT, SIGN},
 };
@@ -32,7 +32,7 @@ const MARKS: [f64; 15] = [
 
 fn of_one(random: &mut Random, call: Call, number: impl Fn(&mut Random, u64) -> u64) -> Case {
     let f = if random.once_in(16) { params::broken(random, F) } else { params::allowed(random, F) };
-    let param = Param { n: 1, d: 1, f, c: 1, e: 1, t: 1, k: 1, alpha: STANDARD };
+    let param = Param::standard([1, 1, f, 1, 1, 1, 1]);
     Case { call, param, number: number(random, f), rows: vec![] }
 }
 
