@@ -69,8 +69,8 @@ def at_test_bound():
                 yield encode(inputs._replace(K=k), row(*numbers), stream)
 
 
-# At the Rust's multiplier it takes so many numbers for a test to miss whose squares do not wrap: all of one sign give
-# 2049, and b is 2048.
+# At the Rust's multiplier, no test of fewer than 76 numbers misses unless their squares wrap. These give 2049 with all
+# signs alike, and b is 2048.
 NO_WRAP = Inputs(235, 77, 0, 30, 9, 3, 1)
 NUMBERS = [26] * 30 + [27] * 47
 STREAM = b"\xff" * 20 + draw_fixed(20) + b"\x00" * 20
