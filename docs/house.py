@@ -1,6 +1,7 @@
 #!/usr/bin/env python3
 """Draws house.svg, beside this file, from crates.txt: a crate is a box, by layer, and a line leads down to what it
-stands on (what follows from other lines is left out). The crates of the calls are those that README.md, "The calls", names.
+stands on (what follows from other lines is left out). The crates with public calls are those that the table in
+README.md, "The calls", names.
 
     python3 docs/house.py            writes house.svg
     python3 docs/house.py --check    says whether house.svg is up to date, by its exit status
