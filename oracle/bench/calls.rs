@@ -219,9 +219,27 @@ fn encoded(w: Encoding, answer: Answer) -> Vec<u64> {
     [w.measurement, w.results].concat()
 }
 
-fn encode(d: usize, t: usize) -> Row {
+fn encode_title(d: usize, t: usize) -> Title {
     let bytes = 8 * d + d.div_ceil(4) * t + 8 * (d + checked_len(t)) + 8 * t;
-    let title = Title { tests: Some(t), ..title("encode", d, "coordinate", bytes) };
+    Title { tests: Some(t), ..title("encode", d, "coordinate", bytes) }
+}
+
+/// With the second rule of the tests, or the switch on, which the original does not have.
+fn encode_with(d: usize, t: usize, note: &str, choices: [u8; 2]) -> Row {
+    let ways = Ways {
+        original: None,
+        ours: way(encoding, encode_ours, encoded),
+        by_hand: Some(way(encoding, encode_by_hand, encoded)),
+    };
+    let made = move |r: &mut Random| {
+        let Param(inputs, alpha, _) = param(d, (1, 1), t);
+        report(r, Param(inputs, alpha, choices))
+    };
+    row(Title { note: note.into(), ..encode_title(d, t) }, made, ways)
+}
+
+fn encode(d: usize, t: usize) -> Row {
+    let title = encode_title(d, t);
     let ready = |s: &Report| {
         give(&s.stream);
         (new(s.param.0), s.gradient.clone())
@@ -632,6 +650,10 @@ fn of_dimension(d: usize) -> Vec<Row> {
         rows.push(encode(d, t));
         rows.push(tests(d, t, false));
         rows.extend(chunks(d, t).map(|at| valid(d, t, at, 1)));
+        if USUAL_DIMENSIONS.contains(&d) {
+            rows.push(encode_with(d, t, "enough tests", [1, 0]));
+            rows.push(encode_with(d, t, "true norm", [0, 1]));
+        }
     }
     rows.extend(chunks(d, USUAL_TESTS).map(|at| valid_sq_norm_equal(d, at, 1)));
     if USUAL_DIMENSIONS.contains(&d) {
