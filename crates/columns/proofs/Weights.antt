@@ -3,10 +3,10 @@ use mathlib.Core.Path.{_≡_, refl, sym, ap, _∙_}
 use mathlib.Core.Bool.{Bool, true, false, cond}
 use mathlib.Core.List.{List, [], _∷_, _++_, map}
 use Prim.Native.Nat.{ℕ, zero, suc, _+_, _*_, _-_, _/_, _%_, _^_, _≤_, _<_}
-use native.Mathlib.Nat.{mod-self, mod-lt, zero-mod, mod-mod, mod-eq-of-lt, add-mod-mod, sub-zero, le-of-lt}
+use native.Mathlib.Nat.{mod-self, zero-mod, mod-mod, mod-eq-of-lt, add-mod-mod, sub-zero, le-of-lt}
 use native.Mathlib.Numerals.{add-one}
 use native.Mathlib.Omega.{arith}
-use lib.ListN.{length, getD, take, drop, set, length-map, length-set}
+use lib.ListN.{length, getD, take, set, length-map}
 use lib.Seq.{take-suc, take-all, length-take-le}
 use lib.Dec.{eqb}
 use Rattle.field64.specs.Field.{addMod, subMod, mulMod}

@@ -1,6 +1,6 @@
 -- `columns::weighed_sum` meets its contract. Assumes nothing.
 use mathlib.Core.Path.{_≡_, _∙_}
-use Prim.Native.Nat.{_+_, _-_, _*_, _%_, _^_, _≤_, _<_}
+use Prim.Native.Nat.{_-_, _*_, _%_, _^_, _≤_, _<_}
 use lib.ListN.{length, take}
 use native.Mathlib.Omega.{arith}
 use borrow.Author.Needs.{needs}
