@@ -9,7 +9,7 @@
  * elements, in that order. Derive the lengths by pine_derive.
  *
  * Answers. number 0 and place 0: accepted. Otherwise number is the first rule broken, in the order 1 to 6, 19,
- * 7, 13, 12, 8 with 17, 9, 10, 11 or 20 in its place, and place is where (enum PineRule). A refused call
+ * 7, 13, 12, 8 with 17, 9, 21, 10, 11 or 20 in its place, and place is where (enum PineRule). A refused call
  * leaves every row as it was. An accepted call writes every element of its output rows and reads none of what
  * they held before (of an aggregate that is added to or taken from: argument and result).
  *
@@ -74,8 +74,10 @@ enum PineRule {
     PINE_FLOOR = 17,             /* a coordinate's floor is below -(p - 1) / 2 or above (p - 1) / 2; place: its
                                   * index in the gradient. Of 8 and 17 the lower index is answered */
     PINE_ALPHA = 19,             /* alpha_numerator or alpha_denominator is 0; place 0 */
-    PINE_WR_TESTS_IN_RANGE = 20  /* by PINE_ENOUGH_TESTS, fewer than num_wr_successes tests are in range; place:
+    PINE_WR_TESTS_IN_RANGE = 20, /* by PINE_ENOUGH_TESTS, fewer than num_wr_successes tests are in range; place:
                                   * how many are */
+    PINE_TRUE_SQ_NORM = 21       /* with true_sq_norm on, the squared norm without reduction is above
+                                  * norm_bound^2; place 0 */
 };
 
 /* The first rule broken and its place, or 0 and 0. */
@@ -102,7 +104,11 @@ enum PineWrTestRule {
  * What PINE_ENOUGH_TESTS changes. A client is no longer refused for a test that misses by chance: it is written
  * as zeros, and does not count. In return up to num_wr_tests - num_wr_successes tests of an accepted report may
  * have missed; the circuits show, as by the other rule, that num_wr_successes succeeded. No other call and no
- * length depends on the rule, and servers need not know it. */
+ * length depends on the rule, and servers need not know it.
+ *
+ * What true_sq_norm changes. With it on, encoding refuses by 21 a gradient whose squared norm, summed in whole
+ * numbers without reduction modulo p, is above norm_bound^2, so that none passes because its norm has wrapped
+ * around p; 10 cannot occur then. How far a report that passed can move the sum: docs/SENSITIVITY.md. */
 typedef struct PineParam {
     uint64_t norm_bound;
     uint64_t dimension;
@@ -218,7 +224,7 @@ PineDecoded pine_field_to_f64(uint64_t y, uint64_t frac_bits);
 
 /* Encodes a gradient of doubles (row 1, length d), with a stream of random bytes (row 2, stream_len),
  * into the measurement (row 3, encoded_input_len; written) and the results of the wraparound tests
- * (row 4, num_wr_tests; written). Rules 1 to 6, 19, 7 (rows 2 to 4), 8 and 17, 9, 10, 11 or 20. */
+ * (row 4, num_wr_tests; written). Rules 1 to 6, 19, 7 (rows 2 to 4), 8 and 17, 9, 21, 10, 11 or 20. */
 PineAnswer pine_encode_with_wr_joint_rand(PineParam param,
                                           const double *gradient, size_t gradient_len,
                                           const uint8_t *stream, size_t stream_len,

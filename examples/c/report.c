@@ -39,6 +39,7 @@ static const char *const rules[] = {
     "",
     "alpha_numerator or alpha_denominator is 0",
     "too few wraparound tests are in range",
+    "the true squared norm is above its bound",
 };
 
 static void must(PineAnswer answer, const char *call) {

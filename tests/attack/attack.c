@@ -7,8 +7,8 @@
  * nothing outside its rows; a refused call leaves every row as it was, and its values are 0; an accepted
  * one leaves the rows that it only reads; made again with other bytes in the rows that it writes, it
  * gives the same answer and the same rows; elements given are below p, doubles are no NaN; a report's tests are
- * written by the rule that the inputs name. Every report that is encoded is also cut in two and taken through all
- * the other calls.
+ * written by the rule that the inputs name, and with the switch on its true squared norm is within the bound. Every
+ * report that is encoded is also cut in two and taken through all the other calls.
  *
  * With -DMEMCHECK, under valgrind, the rows that are written are handed over as uninitialised, and what
  * comes back must be initialised throughout. */
@@ -49,7 +49,7 @@ static const char *const names[KINDS] = {
     "valid_sq_norm_equal", "gradient_part", "checked_part", "results_part", "empty_aggregate", "accumulate", "merge",
     "subtract", "unmerge", "unshard"
 };
-enum { LAST_RULE = PINE_WR_TESTS_IN_RANGE };
+enum { LAST_RULE = PINE_TRUE_SQ_NORM };
 static int is_rule(uint64_t n) {
     return n <= PINE_NUM_SHARES || n == PINE_FLOOR || (PINE_ALPHA <= n && n <= LAST_RULE);
 }
@@ -132,7 +132,7 @@ static PineParam param_in_order(void) {
     p.alpha_numerator = standard ? 87 : alpha_number();
     p.alpha_denominator = standard ? 10 : alpha_number();
     p.wr_test_rule = any_byte();
-    p.true_sq_norm = 0;
+    p.true_sq_norm = any_byte();
     return p;
 }
 
@@ -251,6 +251,11 @@ static double *coordinates(int i, size_t len, PineParam p, int in_order) {
     for (size_t k = 0; k < len; k++) {
         double size = (double)below(once_in(2) ? 2 : share) / scale;
         row[k] = once_in(2) ? size : -size;
+    }
+    if (len >= 2 && once_in(16)) { /* a squared norm of p, which modulo p is 0 */
+        memset(row, 0, len * sizeof *row);
+        row[below(len - 1)] = (double)UINT32_MAX / scale;
+        row[len - 1] = -65536 / scale;
     }
     while (!in_order && len != 0 && once_in(4)) {
         row[below(len)] = any_double();
@@ -392,6 +397,24 @@ static void tests_written(PineParam p, const PineRecord *v, PineAnswer a, const 
     }
 }
 
+/* With the switch on, the squares of the floors' sizes are within the bound, added as whole numbers. */
+static void norm_within(PineParam p, PineAnswer a, const uint64_t *m) {
+    if (a.number == (p.true_sq_norm == 0 ? PINE_TRUE_SQ_NORM : PINE_SQ_NORM)) {
+        fail("refuses the norm by the other rule");
+    }
+    if (a.number != 0 || p.true_sq_norm == 0) {
+        return;
+    }
+    uint64_t left = p.norm_bound * p.norm_bound;
+    for (size_t k = 0; k < p.dimension; k++) {
+        uint64_t size = m[k] > P / 2 ? P - m[k] : m[k];
+        if (size > p.norm_bound || size * size > left) {
+            fail("accepts a true squared norm above its bound");
+        }
+        left -= size * size;
+    }
+}
+
 static void report(PineParam p, const PineDerived *v) {
     size_t d = (size_t)p.dimension, encoded = (size_t)v->pine.encoded_input_len, full = (size_t)v->pine.input_len;
     size_t tests = (size_t)p.num_wr_tests, stream = (size_t)v->stream_len;
@@ -407,6 +430,7 @@ static void report(PineParam p, const PineDerived *v) {
     kind = ENCODE;
     TWICE(4, 12, pine_encode_with_wr_joint_rand(p, gradient, d, s, stream, m, encoded, r, tests));
     tests_written(p, &v->pine, a, m, r);
+    norm_within(p, a, m);
     if (a.number != 0) {
         goto done;
     }
@@ -557,6 +581,7 @@ static void step(void) {
         uint64_t *m = (uint64_t *)pointer(place(2, n[2], 8), n[2]), *r = (uint64_t *)pointer(place(3, n[3], 8), n[3]);
         TWICE(4, 12, pine_encode_with_wr_joint_rand(p, g, n[0], s, n[1], m, n[2], r, n[3]));
         tests_written(p, &v.pine, a, m, r);
+        norm_within(p, a, m);
         if (a.number == 0) {
             all_elements(m, n[2]);
             all_elements(r, n[3]);

@@ -86,13 +86,22 @@ PineDerived __wrap_pine_derive(PineParam p) {
     return v;
 }
 
-/* 12: reads every rule of the tests but 1 as 0; 13: gives the last test the success bit of the first */
+/* 12: reads every rule of the tests but 1 as 0; 13: gives the last test the success bit of the first; 14: ignores the
+ * switch; 15: the same of every byte but 1; 16: of a gradient that is accepted without it */
 PineAnswer __wrap_pine_encode_with_wr_joint_rand(PineParam p, const double *g, size_t gn, const uint8_t *s, size_t sn,
                                                  uint64_t *m, size_t mn, uint64_t *r, size_t rn) {
     if (FAULT == 12) {
         p.wr_test_rule = p.wr_test_rule == 1;
     }
+    if (FAULT == 14 || (FAULT == 15 && p.true_sq_norm != 1)) {
+        p.true_sq_norm = 0;
+    }
     PineAnswer a = __real_pine_encode_with_wr_joint_rand(p, g, gn, s, sn, m, mn, r, rn);
+    if (FAULT == 16 && a.number == PINE_TRUE_SQ_NORM) {
+        p.true_sq_norm = 0;
+        PineAnswer off = __real_pine_encode_with_wr_joint_rand(p, g, gn, s, sn, m, mn, r, rn);
+        a = off.number == 0 ? off : a;
+    }
     if (FAULT == 13 && a.number == 0) {
         PineRecord v = __real_pine_derive(p).pine;
         m[mn - 1] = m[v.dimension + 2 * v.sq_norm_bits + v.wr_test_bits];

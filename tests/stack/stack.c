@@ -106,6 +106,7 @@ int main(void) {
                 uint64_t t = numbers_of_tests[l];
                 param = pine_param_standard(1u << 16, dimensions[k], 8, 1 + k, 7, t, t);
                 param.wr_test_rule = wrong == 4 ? PINE_ENOUGH_TESTS : PINE_EVERY_TEST;
+                param.true_sq_norm = wrong == 4;
                 derived = pine_derive(param);
                 if (derived.answer.number != 0) {
                     continue;

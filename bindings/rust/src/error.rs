@@ -51,6 +51,8 @@ pub enum Rule {
     /// By [`WrTestRule::Enough`](crate::WrTestRule::Enough), fewer than num_wr_successes tests are in range. The
     /// place is how many are.
     WrTestsInRange = 20,
+    /// With true_sq_norm on, the squared norm without reduction is above its bound.
+    TrueSqNorm = 21,
 }
 
 impl Rule {
@@ -81,6 +83,7 @@ impl Error {
             17 => Rule::Floor,
             19 => Rule::Alpha,
             20 => Rule::WrTestsInRange,
+            21 => Rule::TrueSqNorm,
             // no call of the archive that this crate was written for answers another number
             _ => unreachable!("rule {number}: the archive is of another version"),
         };
@@ -108,6 +111,7 @@ impl fmt::Display for Error {
             Rule::Floor => write!(f, "the floor of coordinate {place} is beyond (p - 1) / 2"),
             Rule::Alpha => write!(f, "alpha_numerator or alpha_denominator is 0"),
             Rule::WrTestsInRange => write!(f, "only {place} wraparound tests are in range"),
+            Rule::TrueSqNorm => write!(f, "the true squared norm is above its bound"),
         }?;
         write!(f, " (rule {})", self.rule.number())
     }

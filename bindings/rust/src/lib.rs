@@ -80,7 +80,9 @@ pub struct PineParam {
     pub alpha_denominator: u16,
     /// Which of the tests must be in range for a gradient to be encoded.
     pub wr_test_rule: WrTestRule,
-    /// Whether the squared norm without reduction, too, must be within norm_bound squared.
+    /// Whether the squared norm, summed in whole numbers without reduction modulo p, must be within norm_bound squared,
+    /// too: otherwise [`Rule::TrueSqNorm`]. [`Rule::SqNorm`] cannot occur then. How far a report that passed can move
+    /// the sum: docs/SENSITIVITY.md of the project.
     pub true_sq_norm: bool,
 }
 
@@ -249,7 +251,7 @@ pub fn field_to_f64(y: u64, frac_bits: u64) -> Result<f64, Error> {
 
 /// Encodes a gradient, with a stream of random bytes (`stream_len`), into a measurement
 /// (`encoded_input_len`) and the results of the wraparound tests (`num_wr_tests`). Rules 1 to 6, 19, 7
-/// (rows 2 to 4), 8 and 17, 9, 10, 11 or 20.
+/// (rows 2 to 4), 8 and 17, 9, 21, 10, 11 or 20.
 pub fn encode_with_wr_joint_rand(
     param: PineParam,
     gradient: &[f64],

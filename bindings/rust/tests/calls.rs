@@ -232,6 +232,41 @@ fn a_norm_that_wraps() {
         Rule::WrTest,
         0,
     );
+    // with the switch on, whatever the stream, and the rows stay
+    let on = PineParam {
+        true_sq_norm: true,
+        ..wide
+    };
+    let before = measurement.clone();
+    for byte in 0..4 {
+        refused(
+            encode_with_wr_joint_rand(on, &gradient, &[byte], &mut measurement, &mut results),
+            Rule::TrueSqNorm,
+            0,
+        );
+    }
+    assert_eq!((&measurement, results), (&before, [0]));
+    // at its bound and one above
+    let mut encode =
+        |x: f64| encode_with_wr_joint_rand(on, &[x], &[1], &mut measurement, &mut results);
+    assert_eq!(encode(65536.0), Ok(()));
+    assert_eq!(encode(-65536.0), Ok(()));
+    refused(encode(65537.0), Rule::TrueSqNorm, 0);
+    refused(encode(-65536.5), Rule::TrueSqNorm, 0);
+    // before 10, which the switch leaves nothing to; after 9
+    let (mut measurement, mut results) = ([7; 18], [7; 2]);
+    for (true_sq_norm, rule) in [(false, Rule::SqNorm), (true, Rule::TrueSqNorm)] {
+        let small = PineParam {
+            true_sq_norm,
+            ..param(1, 4, 0, 2, 2)
+        };
+        let mut encode = |gradient: &[f64]| {
+            encode_with_wr_joint_rand(small, gradient, &[3, 0], &mut measurement, &mut results)
+        };
+        refused(encode(&[1.0, 1.0, 0.0, 0.0]), rule, 0);
+        refused(encode(&[2.0]), Rule::GradientLen, 0);
+    }
+    assert_eq!((measurement, results), ([7; 18], [7; 2]));
 }
 
 #[test]
@@ -357,6 +392,7 @@ fn reports_cut_in_two() {
                 8 + (draw.next() % 60_000) as u16
             },
             alpha_denominator: 1 + (draw.next() % 4) as u16,
+            true_sq_norm: d % 3 == 0,
             wr_test_rule: if enough {
                 WrTestRule::Enough
             } else {

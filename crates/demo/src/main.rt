@@ -1,9 +1,10 @@
 // A day on the farm, as a tutorial of the library: two controllers with twelve valves each, a report
-// of each valve, two servers. report.rt, filing.rt and trial.rt have the steps of a report, numbered 1 to 10.
+// of each valve, two servers. report.rt, filing.rt, trial.rt and probe.rt have the steps, numbered 1 to 11.
 mod day;
 mod filing;
 mod made_up;
 mod print;
+mod probe;
 mod report;
 mod row;
 mod table;
@@ -71,6 +72,14 @@ fn trial_block(left: &mut [u64], right: &mut [u64]) {
     table::filed_again(left, right, 4);
 }
 
+fn broken_probe() {
+    print::text(b"a broken probe, whose squared norm modulo p is 0: ");
+    probe::print(false);
+    print::text(b"; with the switch for the true one: ");
+    probe::print(true);
+    print::text(b"\n");
+}
+
 fn sums(left: &[u64], right: &[u64]) {
     print::counted(
         day::true_keys(left, right),
@@ -93,4 +102,5 @@ fn main() {
     sums(&left, &right);
     withdrawal(&mut left, &mut right);
     trial_block(&mut left, &mut right);
+    broken_probe();
 }
