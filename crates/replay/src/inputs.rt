@@ -20,7 +20,7 @@ struct Narrow {
     ok: bool,
 }
 
-fn narrow(n: u64) -> Narrow {
+fn narrowed(n: u64) -> Narrow {
     if n <= 65535 {
         Narrow {
             value: n as u16,
@@ -61,8 +61,8 @@ pub fn read_later(line: &[u8]) -> Later {
     let denominator = words::decimal(line, numerator.next);
     let rule = words::decimal(line, denominator.next);
     let switch = words::decimal(line, rule.next);
-    let above = narrow(numerator.value);
-    let below = narrow(denominator.value);
+    let above = narrowed(numerator.value);
+    let below = narrowed(denominator.value);
     let next = switch.next;
     let both = rule.value <= 1 && switch.value <= 1;
     let wr_test_rule = rule_of(rule.value);
