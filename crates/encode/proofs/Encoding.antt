@@ -176,8 +176,8 @@ module _ (F : Field) (i : PineParam) (g : List Float) (s m r : List ℕ) where
             done = rw (answer-is, eq-eqb (a .number) 0 z, written, e₁, results-are)
 
 -- a part of the row that is filled with 0 first
-pub part-long : (n : ℕ) → n ≤ 256 → length (take n (replicate {A = ℕ} 256 0)) ≡ n
-part-long n h = length-take-le n (replicate {A = ℕ} 256 0) h
+pub part-long : (most n : ℕ) → n ≤ most → length (take n (replicate {A = ℕ} most 0)) ≡ n
+part-long most n h = length-take-le n (replicate {A = ℕ} most 0) h
 
 -- ---- of the record
 

@@ -83,8 +83,20 @@ pub fn encode_with_wr_joint_rand(
     if early.number != 0 {
         return early;
     }
-    let mut found = [0u64; 256];
     let tests = results.len();
+    // A short gradient costs little more than the row that has to be set to 0 for it.
+    if tests <= 8 {
+        let mut found = [0u64; 8];
+        return encode_usable(
+            param,
+            gradient,
+            stream,
+            &mut found[..tests],
+            measurement,
+            results,
+        );
+    }
+    let mut found = [0u64; 256];
     encode_usable(
         param,
         gradient,
