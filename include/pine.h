@@ -92,7 +92,7 @@ enum PineWrTestRule {
     PINE_ENOUGH_TESTS = 1 /* at least num_wr_successes; any byte but 0 says so */
 };
 
-/* The inputs: n, d, f, c, e, T and K of the papers; alpha as a fraction; the rule of the wraparound tests; the
+/* The inputs: n, d, f, c, e, T and K of docs/PINE.md; alpha as a fraction; the rule of the wraparound tests; the
  * switch for the true squared norm. The bound b of the tests is the smallest power of two not below
  * ceil(alpha * norm_bound) + 1. Begin from pine_param_standard.
  *

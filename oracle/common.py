@@ -1,4 +1,4 @@
-"""What the kinds of case share: document 01's limits, lengths and rules, and ways to draw numbers and rows.
+"""What the kinds of case share: docs/PINE.md's limits, lengths and rules, and ways to draw numbers and rows.
 
 Lengths, and what rules 10, 11, 17, 20 and 21 ask, are worked out here from documents 01 and 02 alone.
 """
@@ -97,7 +97,7 @@ def broken(rng, name):
 # The inputs, and what is derived from them
 
 class Later(NamedTuple):
-    """Document 02's inputs, written before a case: the multiplier, the test rule, the switch for the true length."""
+    """The later inputs, written before a case: the multiplier, the test rule, the switch for the true length."""
     num: int = 87
     den: int = 10
     rule: int = 0
@@ -125,7 +125,7 @@ class Inputs(NamedTuple):
         return self.later or RUST
 
     def __str__(self):
-        """The seven of document 01."""
+        """The seven of docs/PINE.md."""
         return " ".join(map(str, self[:7]))
 
 

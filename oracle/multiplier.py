@@ -1,4 +1,4 @@
-"""Cases with another multiplier than 8.7, written `with NUM DEN 0 0` before any case (document 02, g).
+"""Cases with another multiplier than 8.7, written `with NUM DEN 0 0` before any case (changes/g.md).
 
 The Rust has 87 and 10 alone. What other numbers give is worked out, by the same functions that are held to the original
 where the numbers written are the Rust's.

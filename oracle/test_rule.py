@@ -1,4 +1,4 @@
-"""Cases with the second test rule, written `with NUM DEN 1 0` before any case (document 02, i): K tests in range are enough.
+"""Cases with the second test rule, written `with NUM DEN 1 0` before any case: K tests in range are enough.
 
 The Rust has the first rule alone. Where every test is in range the two give the same, and the original is held to; where
 one missed, what encoding gives is worked out.

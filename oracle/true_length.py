@@ -1,4 +1,4 @@
-"""Cases with the switch for the true squared length on, written `with NUM DEN RULE 1` before any case (document 02, k).
+"""Cases with the switch for the true squared length on, written `with NUM DEN RULE 1` before any case.
 
 The Rust has the length modulo p alone. Where the true one is within B the switch changes nothing, and the original is
 held to.

@@ -1,5 +1,5 @@
-//! The bound of the wraparound tests, for every norm bound that document 01 allows: is the rounded form of the
-//! Rust the same as the whole-number form?  `Pine::new` multiplies by 8.7 as a double; document 01 says "the
+//! The bound of the wraparound tests, for every norm bound that docs/PINE.md allows: is the rounded form of the
+//! Rust the same as the whole-number form?  `Pine::new` multiplies by 8.7 as a double; docs/PINE.md says "the
 //! smallest power of two not below ceil(87n / 10) + 1" and "binary digits of 2b - 1".
 //!
 //! Prints one line, and fails if a bound or its number of digits (the width) differs anywhere.

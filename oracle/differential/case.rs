@@ -135,7 +135,7 @@ pub struct Case {
     pub param: Param,
     /// The double's bits, the element, or num_shares.
     pub number: u64,
-    /// In document 01's order.
+    /// In docs/PINE.md's order.
     pub rows: Vec<Row>,
 }
 

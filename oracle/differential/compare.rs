@@ -78,7 +78,7 @@ pub fn compare_on(rows: &mut [Lent], case: &Case) -> Result<Same, String> {
     } else {
         refused(answer, &given, &rows)
     };
-    found.map_err(|difference| format!("ours {}, by document 01 {answer}; {difference}", given.answer))
+    found.map_err(|difference| format!("ours {}, by docs/PINE.md {answer}; {difference}", given.answer))
 }
 
 fn lend(random: &mut Random, case: &Case) -> Vec<Lent> {

@@ -21,7 +21,7 @@ pub fn within(x: u64, (low, high): Limits) -> bool {
     low <= x && x <= high
 }
 
-/// n, d, f, c, e, T and K of the papers, and document 02's; the layout is that of PineParam in include/pine.h.
+/// n, d, f, c, e, T and K of docs/PINE.md, and the later inputs; the layout is that of PineParam in include/pine.h.
 #[repr(C)]
 #[derive(Clone, Copy)]
 pub struct Param {
@@ -43,7 +43,7 @@ pub struct Param {
 const _: () = assert!(size_of::<Param>() == 64);
 
 impl Param {
-    /// For these seven, with document 02's as the original has them.
+    /// For these seven, with the later ones as the original has them.
     pub fn standard([n, d, f, c, e, t, k]: [u64; 7]) -> Param {
         Param { n, d, f, c, e, t, k, alpha: STANDARD, test_rule: 0, true_norm: 0 }
     }

@@ -56,7 +56,7 @@ pub enum Rule {
 }
 
 impl Rule {
-    /// The rule's number in the header and in the papers.
+    /// The rule's number in the header and in docs/PINE.md.
     pub fn number(self) -> u64 {
         self as u64
     }

@@ -1,4 +1,4 @@
-// The worked examples of document 01, refusals that leave rows as they were, and reports cut in two.
+// The worked examples of docs/PINE.md, refusals that leave rows as they were, and reports cut in two.
 use jihmeto_pine::*;
 
 const P: u64 = FIELD_MODULUS;

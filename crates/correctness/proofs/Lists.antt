@@ -1,5 +1,5 @@
--- Tallies in document 01's own words: without withdrawals a tally is a list of rows, and a row's number is how often it stands there. So what document 01 says of aggregates and of
--- decoded sums is a case of `Correctness`. Assumes nothing.
+-- Tallies as lists: without withdrawals a tally is a list of rows, and a row's number is how often it stands there. So what is said of such lists, of aggregates and of decoded
+-- sums, is a case of `Correctness`. Assumes nothing.
 use mathlib.Core.Path.{_≡_, refl, sym, ap, _∙_}
 use mathlib.Core.Logic.{∥∥₁-elim}
 use mathlib.Core.Bool.{Bool, true, false, cond}
@@ -94,7 +94,7 @@ module _ (F : Field) where
   counting [] a s l f = f
   counting (c ∷ cs) a s l f = counting cs (a .1) (step F s c) (listed s l c) (counted s l f c (a .0))
 
--- after calls that take nothing out, on aggregates each begun by an accepted call: what document 01 says of such lists
+-- after calls that take nothing out, on aggregates each begun by an accepted call: what holds of such lists
 module _ (F : Field) (d : ℕ) (s : Aggregates) (b : (k : ℕ) → Begun F d (s k)) (calls : List Call) (additive : Each Additive calls) where
   counts : (k : ℕ) (r : List ℕ) → run F s calls k .tally r ≡ pos (count r (listsAfter F s calls k))
   unfolding Counting
@@ -108,7 +108,7 @@ module _ (F : Field) (d : ℕ) (s : Aggregates) (b : (k : ℕ) → Begun F d (s 
   pub lists-joined : (k m : ℕ) (rows : List (List ℕ)) → Perm (listsAfter F s calls k ++ listsAfter F s calls m) rows → Joined (run F s calls k .tally) (run F s calls m .tally) rows
   lists-joined k m rows q r = (λ j. counts k r j +ℤ counts m r j) ∙ ap pos (sym (count-append r (listsAfter F s calls k) (listsAfter F s calls m)) ∙ count-perm r q)
 
--- so document 01's own statement of the doubles follows from `Correctness`
+-- so the doubles, stated by lists of rows, follow from `Correctness`
 pub as-before : (F : Field) → Correctness F → (i : PineParam) → paramAnswer F i ≡ accepted → (s : Aggregates) → ((k : ℕ) → Begun F (i .dimension) (s k)) → (calls : List Call) → Each Additive calls → (reports : List (Report F i))
     → (k m : ℕ) → Perm (listsAfter F s calls k ++ listsAfter F s calls m) (sharesOf F i reports) → (found : List Float) → length found ≡ i .dimension
     → Decodes F i reports (unshardOf F i (run F s calls k .row) (run F s calls m .row) found)

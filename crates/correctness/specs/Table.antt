@@ -1,4 +1,4 @@
--- The worked examples of document 01, "Bench rows", that are marked P, three rows at places other than 0, and rows of other multipliers and of the two rules of the tests (document 02, g and i), over the definitions that the contracts cite. A double is given by its bit pattern. Assumes nothing.
+-- The worked examples (docs/PINE.md, "Worked rows"), over the definitions that the contracts cite. A double is given by its bit pattern. Assumes nothing.
 use Prim.Native.Nat.{ℕ, _+_, _-_, _*_, _/_, _^_, _≤_}
 use mathlib.Core.Path.{_≡_}
 use mathlib.Core.Bool.{false}

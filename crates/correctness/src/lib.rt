@@ -5,13 +5,13 @@ ghost use Rattle.correctness.specs.Table.{Table};
 ghost use Rattle.correctness.specs.Correctness.{Correctness};
 ghost use Rattle.correctness.specs.Withdrawal.{Withdrawal};
 
-// The worked examples of document 01, "Bench rows", that are marked P.
+// The worked examples (docs/PINE.md, "Worked rows").
 pub fn worked_examples()
     ensures { λ _. ⌜ Table ⌝ }
 {}
 
-// Demand 3 of document 01: for every accepted parameter set, every list of calls on aggregates and
-// every list of reports, each cut in two in a way of its own.
+// The main theorem (docs/PINE.md, "Reports and sums"): for every accepted parameter set, every list of
+// calls on aggregates and every list of reports, each cut in two in a way of its own.
 pub fn reports_and_aggregates()
     ensures { λ _. ⌜ Correctness Field64 ⌝ }
 {}

@@ -1,4 +1,4 @@
--- A double as a field number, and back (document 01, "The gradient and norm bits", "Aggregates"). `Float` is the kit's account of IEEE 754: `fin s m e` is the number m · 2 ^ e,
+-- A double as a field number, and back (docs/PINE.md, "One coordinate"). `Float` is the kit's account of IEEE 754: `fin s m e` is the number m · 2 ^ e,
 -- negative where s is true, and 2 ^ e is the fraction up e / down e. A whole number is `pos n`, which is n, or `negsuc n`, which is -(n + 1). Assumes nothing.
 use Prim.Native.Nat.{ℕ, _-_, _*_, _/_, _%_, _^_}
 use mathlib.Core.Bool.{Bool, true, false, cond, _&&_}

@@ -1,4 +1,4 @@
--- The definitions are what they are called: the parts make up the vector, a result in range is one that w bits hold, and where every test is in range the test bits are document 01's. Assumes nothing.
+-- The definitions are what they are called: the parts make up the vector, a result in range is one that w bits hold, and where every test is in range the first k success bits are 1. Assumes nothing.
 use mathlib.Core.Path.{_≡_, refl, sym, _∙_}
 use mathlib.Core.Bool.{Bool, true, false, cond, _||_}
 use mathlib.Core.List.{List, [], _∷_, _++_}
@@ -40,7 +40,7 @@ module _ (p b : ℕ) (fits : 2 * b ≤ p) (some : 0 < b) where
       go false true m n = sym (le-leb (addMod p r (b - 1)) (2 * b - 1) (omega (arith, shift-high p b fits some r l (ltb-true p (r + b) n))))
       go false false m n = sym (lt-leb (addMod p r (b - 1)) (2 * b - 1) (omega (arith, shift-between r (ltb-false p (r + b) n), leb-false r b m)))
 
--- document 01's test bits: per test w bits of result + b - 1, then one success bit, 1 for the first k tests
+-- the test bits where every test is in range: per test w bits of result + b - 1, then one success bit, 1 for the first k tests
 abbrev pub successOfFirst : (k : ℕ) → ℕ
 successOfFirst zero = 0
 successOfFirst (suc k) = 1

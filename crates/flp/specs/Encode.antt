@@ -1,4 +1,4 @@
--- Encoding a gradient (document 01, "The gradient and norm bits", "The test bits"; document 02, e, i and k). Assumes nothing.
+-- Encoding a gradient (docs/PINE.md, "Encoding"). Assumes nothing.
 use Prim.Native.Nat.{ℕ, zero, suc, _+_, _-_, _*_}
 use mathlib.Core.Bool.{Bool, true, false, cond, _||_, _&&_}
 use mathlib.Core.List.{List, [], _∷_, _++_, map}

@@ -1,4 +1,4 @@
--- The wraparound tests (document 01, "The test bits"). Assumes nothing.
+-- The wraparound tests (docs/PINE.md, "The wraparound tests"). Assumes nothing.
 use Prim.Native.Nat.{ℕ, _/_, _%_}
 use mathlib.Core.Bool.{cond}
 use mathlib.Core.List.{List, [], _∷_, map}

@@ -1,4 +1,4 @@
--- The inputs and the rules on them: 1 to 6 (document 01, "Rules broken"), then 19 (document 02, g). Assumes nothing.
+-- The inputs and the rules on them: 1 to 6, then 19 (docs/PINE.md, "The inputs", "The rules"). Assumes nothing.
 use Prim.Native.Nat.{ℕ}
 use mathlib.Core.List.{List, [], _∷_}
 use mathlib.Core.Bool.{Bool, false}

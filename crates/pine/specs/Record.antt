@@ -1,4 +1,4 @@
--- What is derived from the inputs (document 01, "The parameter record"). Assumes nothing.
+-- What is derived from the inputs (docs/PINE.md, "The record"). Assumes nothing.
 use Prim.Native.Nat.{ℕ, zero, suc, _+_, _-_, _*_, _/_, _^_}
 use mathlib.Core.Bool.{cond}
 use mathlib.Core.Path.{_≡_}
@@ -121,7 +121,7 @@ pub record FromAccepted (F : Field) (r : Pine) : Type 0 where
   pub accepts : paramAnswer F param ≡ accepted
   pub is : r ≡ pineOf param
 
--- ---- lengths of a circuit whose one gadget, of degree 2, has `arity` inputs and is called `calls` times (document 01: as in each `Type` of the Rust)
+-- ---- lengths of a circuit whose one gadget, of degree 2, has `arity` inputs and is called `calls` times (as in each `Type` of the Rust)
 
 abbrev pub proofLen : (arity calls : ℕ) → ℕ
 proofLen arity calls = arity + 2 * (powerAbove calls - 1) + 1

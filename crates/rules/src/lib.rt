@@ -1,6 +1,6 @@
 // What every call answers: the number and the place of the first rule broken, or 0 and 0. Here stand
 // the rules' numbers, by name, and the order by which the first refusal decides. The table of the rules
-// is document 01's, "Rules broken"; what each says is defined where it applies: in the specs/ of pine (1
+// is in docs/PINE.md, "The rules"; what each says is defined where it applies: in the specs/ of pine (1
 // to 6, and 19), doubles (4, and 8 and 12 of one number), rows (7 and 12) and flp (8 to 11, 13, 17, 20 and 21).
 ghost use mathlib.Core.Path.{_≡_};
 ghost use mathlib.Core.Bool.{cond};

@@ -136,7 +136,7 @@ module _ (F : Field) (i : PineParam) where
 pub moved-sums : MovedSums
 moved-sums = record { replaced = replaced-total; removed = removed-total; small = short-sum }
 
--- ---- the doubles, over a field of which demand 3 holds and that has room for sums within 2 ^ 53 of zero
+-- ---- the doubles, over a field of which the main theorem holds and that has room for sums within 2 ^ 53 of zero
 
 module _ (F : Field) (holds : Correctness F) (room : 2 ^ 53 ≤ (F .p - 1) / 2) (i : PineParam) (ok : paramAnswer F i ≡ accepted) where
   fraction : i .«frac_bits» ≤ 30

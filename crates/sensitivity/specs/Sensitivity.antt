@@ -1,4 +1,4 @@
--- How far one report can move the sums of a batch (document 02, k), over a field F. Assumes nothing.
+-- How far one report can move the sums of a batch (docs/SENSITIVITY.md), over a field F. Assumes nothing.
 use Prim.Native.Nat.{ℕ, zero, suc, _+_, _*_, _^_, _<_, _≤_}
 use mathlib.Core.Path.{_≡_}
 use mathlib.Core.Bool.{true}
@@ -82,7 +82,7 @@ module _ (F : Field) (i : PineParam) where
 
   -- ---- their decoded rows
 
-  -- a batch summed, as in demand 3: aggregates each begun by an accepted call, any list of calls on these, two of them whose tallies joined are the shares of the reports, and a row for
+  -- a batch summed, as in the main theorem: aggregates each begun by an accepted call, any list of calls on these, two of them whose tallies joined are the shares of the reports, and a row for
   -- `unshard`, whatever it holds
   pub record Summed (reports : List (Report F i)) : Type 0 where
     pub start : Aggregates

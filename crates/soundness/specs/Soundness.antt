@@ -1,4 +1,4 @@
--- How rarely a false report looks true (document 02, m): of the p³ triples r1, r2, r3 of field numbers, at how many the main circuit, for one share, is zero. Assumes nothing.
+-- How rarely a false report looks true (docs/SOUNDNESS.md): of the p³ triples r1, r2, r3 of field numbers, at how many the main circuit, for one share, is zero. Assumes nothing.
 use Prim.Native.Nat.{ℕ, zero, suc, _+_, _-_, _*_, _≤_, _<_, max}
 use mathlib.Core.Bool.{Bool, true, cond}
 use mathlib.Core.Path.{_≡_}
