@@ -142,6 +142,10 @@ const ALPHA: [u16; 2] = [87, 10];
 /// Its rule of the tests, every one in range, and the switch for the true squared norm off.
 const ORIGINAL: [u8; 2] = [0, 0];
 
+/// The other rule, enough of them in range, and the switch on. No test of a report here misses, and no norm wraps, so
+/// that every way gives the same; by hand there is no switch.
+const OTHER: [u8; 2] = [1, 1];
+
 fn param(d: usize, (c, e): (usize, usize), t: usize) -> Param {
     Param([NORM_BOUND, d as u64, FRAC_BITS, c as u64, e as u64, t as u64, t as u64], ALPHA, ORIGINAL)
 }
@@ -220,9 +224,10 @@ fn encoded(w: Encoding, answer: Answer) -> Vec<u64> {
     [w.measurement, w.results].concat()
 }
 
-fn encode(d: usize, t: usize) -> Row {
+fn encode(d: usize, t: usize, later: [u8; 2]) -> Row {
     let bytes = 8 * d + d.div_ceil(4) * t + 8 * (d + checked_len(t)) + 8 * t;
-    let title = Title { tests: Some(t), ..title("encode", d, "coordinate", bytes) };
+    let note = if later == OTHER { "enough tests, the true norm" } else { "" };
+    let title = Title { tests: Some(t), note: note.into(), ..title("encode", d, "coordinate", bytes) };
     let ready = |s: &Report| {
         give(&s.stream);
         (new(s.param.0), s.gradient.clone())
@@ -234,7 +239,7 @@ fn encode(d: usize, t: usize) -> Row {
     );
     row(
         title,
-        move |r| report(r, param(d, (1, 1), t)),
+        move |r| report(r, Param(param(d, (1, 1), t).0, ALPHA, later)),
         Ways {
             original: Some(original),
             ours: way(encoding, encode_ours, encoded),
@@ -630,13 +635,14 @@ fn derive() -> Row {
 fn of_dimension(d: usize) -> Vec<Row> {
     let mut rows = Vec::new();
     for t in TESTS {
-        rows.push(encode(d, t));
+        rows.push(encode(d, t, ORIGINAL));
         rows.push(tests(d, t, false));
         rows.extend(chunks(d, t).map(|at| valid(d, t, at, 1)));
     }
     rows.extend(chunks(d, USUAL_TESTS).map(|at| valid_sq_norm_equal(d, at, 1)));
     if USUAL_DIMENSIONS.contains(&d) {
         let at = chunks(d, USUAL_TESTS)[1];
+        rows.extend([1, USUAL_TESTS].map(|t| encode(d, t, OTHER)));
         rows.push(tests(d, USUAL_TESTS, true));
         rows.push(valid(d, USUAL_TESTS, at, 2));
         rows.push(valid_sq_norm_equal(d, at, 2));
