@@ -16,7 +16,7 @@ use Rattle.pine.specs.Param.{paramRules, paramAnswer}
 use Rattle.pine.specs.Record.{halvings, digits, sqNormBound, sqNormBits, wrTestBound, wrTestBits, bitCheckedLen, encodedInputLen}
 use Rattle.flp.specs.Bits.{bits, groups}
 use Rattle.flp.specs.Tests.{pairs, weighed, weigh, testOf, testsOf}
-use Rattle.flp.specs.Encode.{elements, sqNorm, testBits, resultsOf, measurementOf, coordinatesRule, everyRule, enoughRule, rangeRule, countInRange, encodeRules, encodeOf}
+use Rattle.flp.specs.Encode.{elements, sqNorm, trueSqNorm, testBits, resultsOf, measurementOf, coordinatesRule, everyRule, enoughRule, rangeRule, countInRange, encodeRules, encodeOf}
 use Rattle.vdaf.specs.Aggregates.{accumulateAnswer, accumulateOf}
 use Rattle.correctness.specs.Table.{Table, double, element, beyond}
 
@@ -61,7 +61,7 @@ pattern-at : (pattern : ℕ) (y : Coordinate) → every (λ f. same (coordinateO
 pattern-at pattern y h f l = same-is _ _ (every-at (λ f. same (coordinateOf p64 floorLimit64 (double (pattern - f * 2 ^ 52)) f) y) 30 h f l)
 
 pub table : Table
-unfolding same every coordinateOf decodedOf ofBits unusable doubles.element floorOf floorDiv modP centred decoded ofInt neg div encodeOf encodeRules measurementOf resultsOf coordinatesRule everyRule enoughRule rangeRule countInRange elements sqNorm testBits bits evaluate groups pairs weighed weigh testOf testsOf halvings digits sqNormBound sqNormBits wrTestBound wrTestBits bitCheckedLen encodedInputLen paramAnswer paramRules accumulateOf accumulateAnswer
+unfolding same every coordinateOf decodedOf ofBits unusable doubles.element floorOf floorDiv modP centred decoded ofInt neg div encodeOf encodeRules measurementOf resultsOf coordinatesRule everyRule enoughRule rangeRule countInRange elements sqNorm trueSqNorm testBits bits evaluate groups pairs weighed weigh testOf testsOf halvings digits sqNormBound sqNormBits wrTestBound wrTestBits bitCheckedLen encodedInputLen paramAnswer paramRules accumulateOf accumulateAnswer
 table = record {
   minus-quarter = refl;
   three-quarters = refl;
@@ -111,4 +111,7 @@ table = record {
   none-in-range-every = refl;
   none-found = refl;
   long-first = refl;
+  true-wraps = refl;
+  true-long = refl;
+  true-short = refl;
 }

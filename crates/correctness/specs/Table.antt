@@ -1,7 +1,7 @@
 -- The worked examples (docs/PINE.md, "Worked rows"), over the definitions that the contracts cite. A double is given by its bit pattern. Assumes nothing.
 use Prim.Native.Nat.{ℕ, _+_, _-_, _*_, _/_, _^_, _≤_}
 use mathlib.Core.Path.{_≡_}
-use mathlib.Core.Bool.{false}
+use mathlib.Core.Bool.{true, false}
 use mathlib.Core.List.{[], _∷_}
 use lib.ListN.{take, drop, replicate}
 use lib.Ieee.{Float, binary64, ofBits}
@@ -38,6 +38,10 @@ value b = record { answer = accepted; value = double b }
 -- f 0, and c = e = 1
 abbrev pub param : (n d T K : ℕ) → PineParam
 param n d T K = standard n d 0 1 1 T K
+
+-- the same with the switch for the true squared norm on
+abbrev pub switchedOn : PineParam → PineParam
+switchedOn i = withLater (i .«alpha_numerator») (i .«alpha_denominator») (i .«wr_test_rule») true i
 
 -- 0.0, 1.0 and 4294967296.0
 abbrev pub none : Float
@@ -142,3 +146,8 @@ pub record Table : Type 0 where
   -- K = 1, neither in range: 20, 0; the gradient 4 1, with v 17 and the same tests, is refused by 10 first
   pub none-found : encodeOf Field64 (narrow Enough 2 1) (three ∷ two ∷ []) (15 ∷ 0 ∷ []) (replicate 18 7) (replicate 2 7) ≡ encodeOutcome (answer 20 0) (replicate 18 7) (replicate 2 7)
   pub long-first : encodeOf Field64 (narrow Enough 2 1) (four ∷ one ∷ []) (15 ∷ 0 ∷ []) (replicate 18 7) (replicate 2 7) ≡ encodeOutcome (answer 10 0) (replicate 18 7) (replicate 2 7)
+  -- with the switch on: 4294967296.0 at n 65536, whose squared norm wraps, is 21; and two squares of 1 at n 1, one of them of the floor -1, are 21 before 10
+  pub true-wraps : encodeOf Field64 (switchedOn (param 65536 1 1 1)) (large ∷ []) (1 ∷ []) (replicate 89 7) (replicate 1 7) ≡ encodeOutcome (answer 21 0) (replicate 89 7) (replicate 1 7)
+  pub true-long : encodeOf Field64 (switchedOn (param 1 4 2 2)) (one ∷ double 0xbfd0_0000_0000_0000 ∷ none ∷ none ∷ []) (3 ∷ 0 ∷ []) (replicate 18 7) (replicate 2 7) ≡ encodeOutcome (answer 21 0) (replicate 18 7) (replicate 2 7)
+  -- the first row of encoding, whose norm is within its bound, is the same with it on
+  pub true-short : encodeOf Field64 (switchedOn (param 1 4 2 2)) (one ∷ none ∷ none ∷ none ∷ []) (3 ∷ 0 ∷ []) (replicate 18 7) (replicate 2 7) ≡ encodeOf Field64 (param 1 4 2 2) (one ∷ none ∷ none ∷ none ∷ []) (3 ∷ 0 ∷ []) (replicate 18 7) (replicate 2 7)
