@@ -5,7 +5,7 @@ use mathlib.Core.List.{List, [], _∷_, _++_}
 use Prim.Native.Nat.{ℕ, suc, _+_, _*_, _/_, _%_, _≤_, _<_}
 use native.Mathlib.Nat.{le-of-eq}
 use native.Mathlib.Omega.{arith}
-use lib.ListN.{length, take, drop, replicate}
+use lib.ListN.{length, take, drop, replicate, length-replicate}
 use lib.Seq.{length-take-le}
 use lib.Dec.{eqb, ltb}
 use lib.Ieee.{Float}
@@ -177,7 +177,7 @@ module _ (F : Field) (i : PineParam) (g : List Float) (s m r : List ℕ) where
 
 -- a part of the row that is filled with 0 first
 pub part-long : (most n : ℕ) → n ≤ most → length (take n (replicate {A = ℕ} most 0)) ≡ n
-part-long most n h = length-take-le n (replicate {A = ℕ} most 0) h
+part-long most n h = length-take-le n (replicate {A = ℕ} most 0) (rw (length-replicate {A = ℕ} most 0) h)
 
 -- ---- of the record
 
