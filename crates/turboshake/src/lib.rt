@@ -94,14 +94,33 @@ fn read_lane(bytes: &[u8], i: usize) -> u64
     placed(b0, b1, b2, b3) + placed(b4, b5, b6, b7) * 0x1_0000_0000
 }
 
-// Xors the next bytes of a row, from i on, into the lanes and gives how many: a whole lane where it is next and there are so
-// many bytes.
+// Xors a whole block of a row, from i on, into the lanes.
+fn put_block(lanes: &mut [u64; 25], bytes: &[u8], i: usize)
+    requires { ⌜ i + 168 ≤ length (now bytes) ⌝ }
+    ensures { λ _. ⌜ moved 168 (sponge (now (lanes .exit)) 0) ≡ absorbAll (take 168 (drop i (now (bytes .entry)))) (sponge (now (lanes .entry)) 0) ⌝ }
+{
+    let mut q = 0;
+    while q < 21 {
+        lanes[q] = lanes[q] ^ read_lane(bytes, i + 8 * q);
+        q += 1;
+    }
+}
+
+// Xors the next bytes of a row, from i on, into the lanes and gives how many: a whole block or a whole lane where it is
+// next and there are so many bytes.
 fn put_next(lanes: &mut [u64; 25], at: usize, bytes: &[u8], i: usize) -> usize
     requires { ⌜ (at < 168) × (i < length (now bytes)) ⌝ }
     ensures { λ r. ⌜ ((0 < r) × (at + r ≤ 168)) × ((i + r ≤ length (now (bytes .entry))) × (moved r (sponge (now (lanes .exit)) at) ≡ absorbAll (take r (drop i (now (bytes .entry)))) (sponge (now (lanes .entry)) at))) ⌝ }
 {
+    let left = bytes.len() - i;
+    if at == 0 {
+        if RATE <= left {
+            put_block(lanes, bytes, i);
+            return RATE;
+        }
+    }
     if at % 8 == 0 {
-        if 8 <= bytes.len() - i {
+        if 8 <= left {
             let q = at / 8;
             lanes[q] = lanes[q] ^ read_lane(bytes, i);
             return 8;
