@@ -78,7 +78,7 @@ fn byte_at(bytes: &[u8], i: usize) -> u64
     wide(bytes[i])
 }
 
-// The number whose bytes are the eight from i on. LLVM makes one load of these.
+// The number whose bytes are the eight from i on. LLVM makes one load of them.
 fn read_lane(bytes: &[u8], i: usize) -> u64
     requires { ⌜ i + 8 ≤ length (now bytes) ⌝ }
     ensures { λ r. ⌜ (lowBytes 8 r ≡ take 8 (drop i (now (bytes .entry)))) × (r < 2 ^ 64) ⌝ }
