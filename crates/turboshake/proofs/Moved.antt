@@ -1,17 +1,13 @@
 -- Places in the block, and the loops over bytes. Assumes nothing.
-use mathlib.Core.Path.{_≡_, refl, sym, ap, ap₂, _∙_, subst}
-use mathlib.Core.List.{List, [], _∷_, _++_}
-use Prim.Native.Nat.{ℕ, zero, suc, _+_, _*_, _/_, _%_, _^_, _<_, _≤_}
-use native.Mathlib.Nat.{mod-lt}
-use native.Mathlib.Numerals.{add-one}
+use mathlib.Core.Path.{_≡_, sym, ap, _∙_}
+use mathlib.Core.List.{List}
+use Prim.Native.Nat.{ℕ, suc, _+_, _*_, _%_, _^_, _<_, _≤_}
 use native.Mathlib.Omega.{arith}
 use borrow.Author.Tests.{eq-eqb, ne-eqb}
-use lib.ListN.{length, getD, set, take, drop, drop-of-length-le, take-append-drop}
+use lib.ListN.{length, getD, take, drop, drop-of-length-le, take-append-drop}
 use lib.Seq.{drop-cons, drop-drop}
-use lib.Bits.{bitXor}
 use lib.Pow.{shl-exact}
-use lib.Dec.{lit<}
-use Rattle.keccak.specs.Keccak.{keccakP, each}
+use Rattle.keccak.specs.Keccak.{keccakP}
 use Rattle.keccak.proofs.Rounds.{each-append}
 use Rattle.turboshake.specs.declared.Sponge.{Sponge}
 use Rattle.turboshake.specs.Stream.{sponge, moved, xorByte, absorbByte, absorbAll}

@@ -1,6 +1,5 @@
 -- The state that the code carries gives TurboSHAKE128, and a longer output begins with the shorter one. Assumes nothing.
-use mathlib.Core.Path.{_≡_, refl, sym, ap, ap₂, _∙_, subst}
-use mathlib.Core.Bool.{cond}
+use mathlib.Core.Path.{_≡_, refl, sym, ap, ap₂, _∙_}
 use mathlib.Core.List.{List, [], _∷_, _++_}
 use Prim.Native.Nat.{ℕ, zero, suc, _+_, _-_, _*_, _/_, _%_, _^_, _<_, _≤_}
 use native.Mathlib.Nat.{zero-mul, zero-add, lt-of-not-le}
@@ -15,9 +14,9 @@ use Rattle.keccak.specs.Keccak.{keccakP}
 use Rattle.keccak.proofs.Rounds.{keccak-length, each-append}
 use Rattle.turboshake.specs.declared.Sponge.{Sponge}
 use Rattle.turboshake.specs.TurboShake.{Bytes, lowBytes, bytesOf, lanesOf, xorLast, padded, xorInto, absorbBlocks, absorbed, squeezeBlocks, turboShake128}
-use Rattle.turboshake.specs.Stream.{sponge, moved, xorByte, absorbByte, absorbAll, start, finished, streamOf, drawn, after}
+use Rattle.turboshake.specs.Stream.{sponge, moved, xorByte, absorbByte, absorbAll, start, streamOf, drawn, after}
 use Rattle.turboshake.proofs.Moved.{moved-full, moved-part}
-use Rattle.turboshake.proofs.Drawn.{length-low, length-drawn, drawn-add, after-run}
+use Rattle.turboshake.proofs.Drawn.{length-drawn, drawn-add, after-run}
 use Rattle.turboshake.proofs.Xor.{xor-assoc, xor-shl}
 use Rattle.turboshake.proofs.Words.{low-bytes, moved-place}
 use Rattle.turboshake.proofs.Runs.{xorRun, run-absorbed, run-lanes, bytes-take, bytes-drop}

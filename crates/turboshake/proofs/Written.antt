@@ -1,10 +1,10 @@
 -- Bytes of a row, written and read one after the other. Assumes nothing.
-use mathlib.Core.Path.{_≡_, refl, sym, ap, ap₂, _∙_, subst}
+use mathlib.Core.Path.{_≡_, refl, sym, ap, ap₂, _∙_}
 use mathlib.Core.List.{List, [], _∷_, _++_, append-assoc}
 use Prim.Native.Nat.{ℕ, zero, suc, _+_, _*_, _/_, _%_, _<_, _≤_}
 use native.Mathlib.Omega.{arith}
 use lib.ListN.{length, getD, set, take, drop}
-use lib.Seq.{sets, sets-eq, drop-cons}
+use lib.Seq.{sets-eq, drop-cons}
 use Rattle.turboshake.specs.TurboShake.{Bytes, lowBytes, numberOf}
 
 pub eight-stores : (l : List ℕ) (i a b c d e f g h : ℕ) → i + 8 ≤ length l

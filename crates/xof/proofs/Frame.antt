@@ -1,13 +1,13 @@
 -- What is absorbed goes in by its parts, and is made of bytes. Assumes nothing.
 use mathlib.Core.Path.{_≡_, sym, ap, _∙_}
-use mathlib.Core.List.{List, _∷_, _++_}
+use mathlib.Core.List.{List, _++_}
 use Prim.Native.Nat.{ℕ}
 use native.Mathlib.Nat.{mod-lt}
 use lib.Dec.{lit<}
 use Rattle.keccak.proofs.Rounds.{each-append}
 use Rattle.turboshake.specs.declared.Sponge.{Sponge}
 use Rattle.turboshake.specs.TurboShake.{Bytes}
-use Rattle.turboshake.specs.Stream.{absorbByte, absorbAll, start, streamOf, finished, drawn}
+use Rattle.turboshake.specs.Stream.{absorbByte, absorbAll, start, streamOf, drawn}
 use Rattle.turboshake.proofs.Shake.{bytes-append, stream-is}
 use Rattle.xof.specs.Xof.{algorithmId, dst, beforeBinder, xofTurboShake128}
 

@@ -1,5 +1,5 @@
 -- XofTurboShake128 of the VDAF draft, and the tag that `dst` of pine/mod.rs makes. Assumes nothing.
-use mathlib.Core.List.{List, [], _∷_, _++_, reverse}
+use mathlib.Core.List.{List, _∷_, _++_, reverse}
 use Prim.Native.Nat.{ℕ}
 use lib.ListN.{length}
 use Rattle.turboshake.specs.TurboShake.{lowBytes, turboShake128}

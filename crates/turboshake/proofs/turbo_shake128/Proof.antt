@@ -1,5 +1,5 @@
 -- `turboshake::turbo_shake128` meets its contract. Assumes nothing.
-use mathlib.Core.Path.{_≡_, ap, _∙_}
+use mathlib.Core.Path.{ap, _∙_}
 use lib.ListN.{length}
 use borrow.Author.Needs.{needs}
 use Rattle.turboshake.specs.Stream.{absorbAll, finished, drawn}

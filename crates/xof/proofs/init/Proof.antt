@@ -1,5 +1,5 @@
 -- `xof::init` meets its contract. Assumes nothing.
-use mathlib.Core.Path.{_≡_, ap, ap₂, _∙_}
+use mathlib.Core.Path.{ap₂, _∙_}
 use mathlib.Core.List.{_∷_}
 use Rattle.turboshake.specs.Stream.{absorbAll}
 use Rattle.xof.specs.Xof.{algorithmId, dst}

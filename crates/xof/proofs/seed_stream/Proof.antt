@@ -1,5 +1,5 @@
 -- `xof::seed_stream` meets its contract. Assumes nothing.
-use mathlib.Core.Path.{_≡_, ap, _∙_}
+use mathlib.Core.Path.{ap, _∙_}
 use Rattle.turboshake.specs.Stream.{finished}
 use Rattle.xof.specs.Xof.{algorithmId, dst, beforeBinder}
 use Rattle.xof.proofs.Frame.{parts-absorbed}

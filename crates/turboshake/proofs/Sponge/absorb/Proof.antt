@@ -1,5 +1,5 @@
 -- `turboshake::Sponge::absorb` meets its contract. The invariant: the bytes that are left take the state to where all take the first one. Assumes nothing.
-use mathlib.Core.Path.{_≡_, refl, _∙_}
+use mathlib.Core.Path.{refl, _∙_}
 use Prim.Native.Nat.{_-_, _≤_, _<_}
 use borrow.Author.Needs.{needs}
 use lib.ListN.{length}
