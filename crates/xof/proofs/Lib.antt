@@ -1,0 +1,2 @@
+-- `Frame` of what the XOF absorbs.
+pub mod Frame
