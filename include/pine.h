@@ -101,7 +101,7 @@ enum PineRule {
                                   * norm_bound^2; place 0 */
 };
 
-/* What an answer's number says. */
+/* What an answer's number says, in words; one text for every number that is no rule. */
 static inline const char *pine_rule_text(uint64_t number) {
     switch (number) {
     case PINE_ACCEPTED: return "accepted";

@@ -1,6 +1,6 @@
 # Read by the scripts that link libpine_c.a, at the repository's root, with script set to their own path there.
 
-# where `make lib` writes it, or where the caller says
+# where the caller says, or where `make lib` writes it
 archive=${PINE_LIB_DIR:-build}/libpine_c.a
 
 stop() {
