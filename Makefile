@@ -1,38 +1,79 @@
-# Thin: each target is one command.
-.PHONY: test demo differential bench lib example attack
+# Thin: each target is one command or two. A line that begins with '#:' is what bare make prints.
+.PHONY: help demo test lib install example attack linked differential bench
 
-kit = @command -v rt >/dev/null || { echo "rt is not on the PATH: install the Rattle kit" >&2; exit 1; }
+#: make demo           a day on the farm: two controllers of valves, two servers, the sums
+#:                     needs the Rattle kit (rt on the PATH); some seconds
+#: make test           the gate: proves every crate from nothing, tries the edits that must fail, runs the programs
+#:                     needs the kit; about 35 minutes on two threads of one core
+#: make lib            build/libpine_c.a, proved, with pine.h beside it
+#:                     needs the kit; about 6 minutes from nothing, seconds where all is proved
+#: make install        copies both, and a file for pkg-config, under PREFIX (/usr/local); DESTDIR goes before that
+#:                     needs make lib, once; at once
+#: make example        make lib, then builds the C example with gcc and with g++, and runs it
+#:                     needs the kit, gcc and g++; seconds after make lib
+#: make attack         make lib, then calls every function of the archive with arbitrary arguments, SEED=1 COUNT=1000000
+#:                     needs the kit, gcc, and valgrind for its last part; ten seconds after make lib
+#: make linked         make lib, then all checks of what people link: header, examples, arguments, stack, Rust
+#:                     needs the kit, and skips what gcc, g++, valgrind, pkg-config or cargo is missing for; half a
+#:                     minute after make lib
+#: make differential   every call of the archive beside the original Rust, in both of its profiles; SEED, COUNT
+#:                     needs the kit, cargo, and ORACLE, see oracle/README.md; about 2 minutes after make lib
+#: make bench          times beside the original's and those of Rust by hand; WRITE=docs/BENCHMARKS.md writes that
+#:                     needs the kit, cargo, Python and ORACLE; about 3 minutes after make lib
+help:
+	@sed -n 's/^#: \{0,1\}//p' Makefile
 
-# the gate: .ci/run runs this
-test:
-	$(kit)
-	rt ci
+# the kit is there, and it is the one that the file kit names, or a warning has both names
+kit = @command -v rt >/dev/null || { echo "rt is not on the PATH: install the Rattle kit ($$(cat kit))" >&2; exit 1; }; \
+	[ "$$(rt version)" = "$$(cat kit)" ] || \
+	echo "warning: the proofs were written for '$$(cat kit)'; installed is '$$(rt version)'" >&2
 
-# the main job, as a tutorial: two controllers of valves, two servers, a day's reports. rt try runs the program with no
-# proof, four ways, and holds what each writes to the file that is shown then
+# rt try runs the program with no proof, four ways, and holds what each writes to the file that is shown then
 demo:
 	$(kit)
 	rt try demo && cat crates/demo/stdout
 
-# every call of the archive beside the original Rust, in both of its profiles; ORACLE is the folder in which the
-# original was built (oracle/README.md); SEED and COUNT, if set, draw other cases
-differential:
-	oracle/differential/run
+# .ci/run runs this
+test:
+	$(kit)
+	rt ci
 
-# times beside the original's and those of Rust by hand, with ORACLE as above: docs/BENCHMARKS.md and its plot;
-# OUT: where to build
-bench:
-	oracle/bench/run --write docs/BENCHMARKS.md
-
-# target/staticlib/libpine_c.a, with its header beside it (docs/C.md)
+# in build/, for rt ci removes target/
 lib:
 	$(kit)
-	rt staticlib pine_c && cp include/pine.h target/staticlib/
+	@mkdir -p build
+	@echo "proving the calls and all that they stand on: about 6 minutes from nothing, seconds where all is proved;" \
+		"build/lib.log has the prover's notes"
+	@rt staticlib pine_c >build/lib.log 2>&1 || \
+		{ tail -n 40 build/lib.log >&2; echo "not proved: build/lib.log has it whole" >&2; exit 1; }
+	@cp target/staticlib/libpine_c.a include/pine.h build/
+	@echo "build/libpine_c.a and build/pine.h"
 
-# builds the C example with gcc and with g++, and runs it
+PREFIX = /usr/local
+lib_dir = $(or $(PINE_LIB_DIR),build)
+version = $(shell awk '/define PINE_VERSION_/ { v = v dot $$3; dot = "." } END { print v }' include/pine.h)
+
+install:
+	@[ -f '$(lib_dir)/libpine_c.a' ] || { echo "$(lib_dir)/libpine_c.a is missing: run 'make lib' first" >&2; exit 1; }
+	@case '$(PREFIX)' in /*) ;; *) echo "PREFIX=$(PREFIX) is not absolute" >&2; exit 1 ;; esac
+	install -d '$(DESTDIR)$(PREFIX)/include' '$(DESTDIR)$(PREFIX)/lib/pkgconfig'
+	install -m 644 include/pine.h '$(DESTDIR)$(PREFIX)/include/'
+	install -m 644 '$(lib_dir)/libpine_c.a' '$(DESTDIR)$(PREFIX)/lib/'
+	sed 's|@PREFIX@|$(PREFIX)|; s|@VERSION@|$(version)|' include/pine.pc.in >'$(DESTDIR)$(PREFIX)/lib/pkgconfig/pine.pc'
+
 example: lib
-	examples/c/run
+	PINE_LIB_DIR= examples/c/run
 
-# calls every function of the archive with arbitrary arguments; SEED and COUNT are the driver's
 attack: lib
-	tests/attack/run $(SEED) $(COUNT)
+	PINE_LIB_DIR= tests/attack/run $(or $(SEED),1) $(or $(COUNT),1000000)
+
+linked: lib
+	tests/linked build
+
+differential:
+	$(kit)
+	oracle/differential/run
+
+bench:
+	$(kit)
+	oracle/bench/run $(if $(WRITE),--write $(WRITE))

@@ -1,19 +1,25 @@
-/* PINE reports over Field64: the proved calls of libpine_c.a, for C11 and C++.
+/* PINE reports over Field64: the proved calls of libpine_c.a, for C11 and C++11 or later, on x86-64.
+ *
+ * What it is not: a whole VDAF. There is no FLP proof, query or prepare, so two servers that hold only shares
+ * cannot check a report with this alone; all randomness is the caller's, time is not constant, and nothing is
+ * said of privacy. README.md, "What it is not", has each of these, and what the randomness must be.
  *
  * Each call is the function of the same name in the Rattle crates doubles, params, wr_tests, encode,
  * validity and vdaf, or locate_gradient and so on in parts, with the same contract: for ANY numbers and any
  * bytes in its rows it ends, reads and writes inside its rows only, and gives exactly what the definitions in
- * crates/.../specs say, refusals included. docs/C.md has the tables of rows and refusals, and how to link.
+ * crates/.../specs say, refusals included. docs/PINE.md has these in words, docs/C.md the tables of rows and
+ * refusals, and how to link.
  *
  * Numbers. A field number is a uint64_t below p = 2^64 - 2^32 + 1. A row is a pointer and its length in
  * elements, in that order. Derive the lengths by pine_derive.
  *
- * Answers. number 0 and place 0: accepted. Otherwise number is the first rule broken, in the order 1 to 6, 19,
- * 7, 13, 12, 8 with 17, 9, 21, 10, 11 or 20 in its place, and place is where (enum PineRule). A refused call
- * leaves every row as it was. An accepted call writes every element of its output rows and reads none of what
- * they held before (of an aggregate that is added to or taken from: argument and result).
+ * Answers. number 0 and place 0: accepted, the arguments were in order. Otherwise number is the first rule
+ * broken, in the order 1 to 6, 19, 7, 13, 12, 8 with 17, 9, 21, 10, 11 or 20 in its place, and place is where
+ * (enum PineRule; pine_rule_text has each in words). A refused call leaves every row as it was. An accepted call
+ * writes every element of its output rows and reads none of what they held before (of an aggregate that is added
+ * to or taken from: argument and result). A compiler that can warns where an answer is dropped.
  *
- * What the caller owes, which no proof can see:
+ * What the caller has to see to, for no proof can:
  * - A pointer is valid for its length, and aligned for its type (8 bytes, 1 for the stream). Give an
  *   empty row (length 0) a pointer that is not null, too.
  * - A row that is written overlaps no other row of the call, and nobody else reads or writes it
@@ -25,7 +31,7 @@
  *
  * No call keeps state, allocates, locks, does input or output, or fails otherwise than by its answer:
  * any number of threads may call at once. Nothing depends on a NaN's payload or sign: a NaN is refused,
- * and no call gives one. Time is not constant: it depends on the inputs, the lengths and the data.
+ * and no call gives one.
  *
  * The archive is code for x86-64 (System V calls, position-independent, no instruction beyond SSE2). All it
  * takes from a C library is memcpy and memset.
@@ -35,6 +41,20 @@
 
 #include <stddef.h>
 #include <stdint.h>
+
+/* The version of this header and of the archive that was built with it; that of bindings/rust, too. */
+#define PINE_VERSION_MAJOR 0
+#define PINE_VERSION_MINOR 1
+#define PINE_VERSION_PATCH 0
+
+/* Before each call: its result is not to be dropped. */
+#if (defined(__cplusplus) && __cplusplus >= 201703L) || (defined(__STDC_VERSION__) && __STDC_VERSION__ >= 202311L)
+#define PINE_MUST_USE [[nodiscard]]
+#elif defined(__GNUC__)
+#define PINE_MUST_USE __attribute__((warn_unused_result))
+#else
+#define PINE_MUST_USE
+#endif
 
 #ifdef __cplusplus
 extern "C" {
@@ -69,7 +89,8 @@ enum PineRule {
     PINE_SQ_NORM = 10,           /* the squared norm, a field number, is above norm_bound^2; place 0 */
     PINE_WR_TEST = 11,           /* by PINE_EVERY_TEST, a wraparound test's result is out of range; place: the
                                   * test, from 0 */
-    PINE_ELEMENT = 12,           /* not below p; place: its index over the rows read, joined in order */
+    PINE_ELEMENT = 12,           /* not below p; place: its index over the rows of elements that are read, joined
+                                  * in order (pine_element_place) */
     PINE_NUM_SHARES = 13,        /* 0 or above its limit; place 0 */
     PINE_FLOOR = 17,             /* a coordinate's floor is below -(p - 1) / 2 or above (p - 1) / 2; place: its
                                   * index in the gradient. Of 8 and 17 the lower index is answered */
@@ -80,11 +101,57 @@ enum PineRule {
                                   * norm_bound^2; place 0 */
 };
 
+/* What an answer's number says, in words; one text for every number that is no rule. */
+static inline const char *pine_rule_text(uint64_t number) {
+    switch (number) {
+    case PINE_ACCEPTED: return "accepted";
+    case PINE_NUM_WR_SUCCESSES: return "num_wr_successes is above num_wr_tests";
+    case PINE_NORM_BOUND: return "norm_bound is 0 or above its limit";
+    case PINE_DIMENSION: return "dimension is 0 or above its limit";
+    case PINE_FRAC_BITS: return "frac_bits is above its limit";
+    case PINE_CHUNK_LEN: return "a chunk length is 0 or above its limit";
+    case PINE_NUM_WR_TESTS: return "num_wr_tests is 0 or above its limit";
+    case PINE_ROW_LEN: return "a row has another length than derived";
+    case PINE_COORDINATE: return "a coordinate is NaN, infinite or subnormal";
+    case PINE_GRADIENT_LEN: return "the gradient's length is not the dimension";
+    case PINE_SQ_NORM: return "the squared norm is above its bound";
+    case PINE_WR_TEST: return "a wraparound test is out of range";
+    case PINE_ELEMENT: return "an element is not below the modulus";
+    case PINE_NUM_SHARES: return "num_shares is 0 or above its limit";
+    case PINE_FLOOR: return "a coordinate's floor is out of the field's limits";
+    case PINE_ALPHA: return "alpha_numerator or alpha_denominator is 0";
+    case PINE_WR_TESTS_IN_RANGE: return "too few wraparound tests are in range";
+    case PINE_TRUE_SQ_NORM: return "the squared norm without reduction is above its bound";
+    default: return "no rule has this number";
+    }
+}
+
 /* The first rule broken and its place, or 0 and 0. */
 typedef struct PineAnswer {
     uint64_t number;
     uint64_t place;
 } PineAnswer;
+
+/* Where an element lies: its row, from 1, and its index there. Beside row 0, in no row, index is 0. */
+typedef struct PineElementPlace {
+    uint64_t row;
+    uint64_t index;
+} PineElementPlace;
+
+/* The element behind a place of rule 12, from the lengths that the call was given. Two rows are joined, rows 1 and
+ * 2, in pine_valid, pine_accumulate, pine_merge, pine_subtract, pine_unmerge and pine_unshard. Of
+ * pine_run_wr_tests, pine_valid_sq_norm_equal and the three parts it is row 1 alone: row2_len is 0. */
+static inline PineElementPlace pine_element_place(uint64_t place, size_t row1_len, size_t row2_len) {
+    PineElementPlace found = {0, 0};
+    if (place < row1_len) {
+        found.row = 1;
+        found.index = place;
+    } else if (place - row1_len < row2_len) {
+        found.row = 2;
+        found.index = place - row1_len;
+    }
+    return found;
+}
 
 /* What wr_test_rule says: which of the wraparound tests must be in range for a gradient to be encoded. */
 enum PineWrTestRule {
@@ -95,6 +162,14 @@ enum PineWrTestRule {
 /* The inputs: n, d, f, c, e, T and K of docs/PINE.md; alpha as a fraction; the rule of the wraparound tests; the
  * switch for the true squared norm. The bound b of the tests is the smallest power of two not below
  * ceil(alpha * norm_bound) + 1. Begin from pine_param_standard.
+ *
+ * norm_bound is in units of 2^-frac_bits. It bounds the norm of the floors of the coordinates times 2^frac_bits,
+ * which is less than sqrt(dimension) above the norm of those products. With beta the largest norm of a gradient:
+ *     ceil(beta * 2^frac_bits + sqrt(dimension))   no gradient of norm up to beta is refused by 10 or 21
+ *     ceil(beta * 2^frac_bits)                     the same, all coordinates being multiples of 2^-frac_bits
+ *     floor(beta * 2^frac_bits)                    with true_sq_norm on, no floors of a norm above
+ *                                                  beta * 2^frac_bits pass
+ * docs/PINE.md, "Choosing the inputs", says why, and how to choose the others.
  *
  * What another alpha changes. A result from -b + 1 to b is in range, so a smaller b refuses more streams by
  * rule 11, and a larger one lets more gradients pass whose squared norm has wrapped around p; how many, no
@@ -123,8 +198,8 @@ typedef struct PineParam {
     uint8_t true_sq_norm; /* 0: off; any other byte: on */
 } PineParam;
 
-/* The inputs with which the calls equal the original, which has no others: alpha is 87 / 10, every test must be
- * in range, the switch is off. */
+/* The inputs with which the calls equal the original, which has no others, but for rule 17: alpha is 87 / 10, every
+ * test must be in range, the switch is off. */
 static inline PineParam pine_param_standard(uint64_t norm_bound, uint64_t dimension, uint64_t frac_bits,
                                             uint64_t chunk_len, uint64_t chunk_len_sq_norm_equal,
                                             uint64_t num_wr_tests, uint64_t num_wr_successes) {
@@ -185,12 +260,18 @@ typedef struct PineDecoded {
     double value;
 } PineDecoded;
 
-/* A circuit's value and how many gadget calls it made. Beside a refusal, both are 0. */
+/* A circuit's value and how many gadget calls it made. Beside a refusal both are 0, so a value of 0 says something
+ * only beside an accepted answer: ask pine_is_valid. */
 typedef struct PineCircuit {
     PineAnswer answer;
     uint64_t value;
     uint64_t gadget_calls;
 } PineCircuit;
+
+/* 1 if the arguments were in order and the value is 0, else 0. What that says of a report: below, "the circuits". */
+static inline int pine_is_valid(PineCircuit circuit) {
+    return circuit.answer.number == PINE_ACCEPTED && circuit.value == 0;
+}
 
 /* A part of the row that was passed: len elements from row + start. Beside a refusal, both are 0. */
 typedef struct PinePart {
@@ -202,93 +283,102 @@ typedef struct PinePart {
 /* ---- parameters */
 
 /* Rules 1 to 6, 19. */
-PineAnswer pine_check_param(PineParam param);
+PINE_MUST_USE PineAnswer pine_check_param(PineParam param);
 
 /* The record and every length. Rules 1 to 6, 19. */
-PineDerived pine_derive(PineParam param);
+PINE_MUST_USE PineDerived pine_derive(PineParam param);
 
 /* The bound b of the wraparound tests, from a derived record: a result from -b + 1 to b is in range. 0 for
  * a record that holds none, as beside a refusal. */
-uint64_t pine_wr_test_bound(PineRecord pine);
+PINE_MUST_USE uint64_t pine_wr_test_bound(PineRecord pine);
 
 /* ---- one number */
 
 /* floor(x * 2^frac_bits) modulo p. Rules 4, 8 and 17, place 0. */
-PineCoordinate pine_f64_to_field(double x, uint64_t frac_bits);
+PINE_MUST_USE PineCoordinate pine_f64_to_field(double x, uint64_t frac_bits);
 
 /* The nearest double to y, or to y - p for y above (p - 1) / 2, divided by 2^frac_bits. Rules 4 and 12,
  * place 0. */
-PineDecoded pine_field_to_f64(uint64_t y, uint64_t frac_bits);
+PINE_MUST_USE PineDecoded pine_field_to_f64(uint64_t y, uint64_t frac_bits);
 
 /* ---- a report */
 
 /* Encodes a gradient of doubles (row 1, length d), with a stream of random bytes (row 2, stream_len),
  * into the measurement (row 3, encoded_input_len; written) and the results of the wraparound tests
  * (row 4, num_wr_tests; written). Rules 1 to 6, 19, 7 (rows 2 to 4), 8 and 17, 9, 21, 10, 11 or 20. */
-PineAnswer pine_encode_with_wr_joint_rand(PineParam param,
-                                          const double *gradient, size_t gradient_len,
-                                          const uint8_t *stream, size_t stream_len,
-                                          uint64_t *measurement, size_t measurement_len,
-                                          uint64_t *results, size_t results_len);
+PINE_MUST_USE PineAnswer pine_encode_with_wr_joint_rand(PineParam param,
+                                                        const double *gradient, size_t gradient_len,
+                                                        const uint8_t *stream, size_t stream_len,
+                                                        uint64_t *measurement, size_t measurement_len,
+                                                        uint64_t *results, size_t results_len);
 
 /* The wraparound tests alone, on a share of the gradient's elements (row 1, d), with the report's stream
  * (row 2, stream_len), into results (row 3, num_wr_tests; written). Rules 1 to 6, 19, 7, 12. */
-PineAnswer pine_run_wr_tests(PineParam param,
-                             const uint64_t *gradient, size_t gradient_len,
-                             const uint8_t *stream, size_t stream_len,
-                             uint64_t *results, size_t results_len);
+PINE_MUST_USE PineAnswer pine_run_wr_tests(PineParam param,
+                                           const uint64_t *gradient, size_t gradient_len,
+                                           const uint8_t *stream, size_t stream_len,
+                                           uint64_t *results, size_t results_len);
 
-/* ---- the circuits, on a full vector: a measurement or a share of one, then its results */
+/* ---- the circuits, on a full vector: a measurement or a share of one, then its results
+ *
+ * An accepted answer says that the arguments were in order, and nothing of the report. A report is valid where both
+ * circuits have the value 0 (pine_is_valid) on its whole vector, with num_shares 1 and joint randomness that its
+ * client could not foresee. What encoding gave has the value 0 in both, whatever the joint randomness, and so has
+ * the sum of its full shares.
+ *
+ * num_shares is how many shares the vector was cut into: 1 for a whole vector, 2 for one of two shares. The main
+ * circuit divides its constants by it, modulo p. The values on two shares do not add up to the value on the whole
+ * all the same: both circuits multiply elements, and are not linear. To check a report from its shares alone takes
+ * an FLP proof, which is not here. */
 
-/* PineType, on a full vector (row 1, input_len) with joint randomness (row 2, 3 elements). On a report's
- * own full vector, or the sum of its full shares, with num_shares 1, the value is 0 whatever the joint
- * randomness. Rules 1 to 6, 19, 7, 13, 12. */
-PineCircuit pine_valid(PineParam param, uint64_t num_shares,
-                       const uint64_t *full, size_t full_len,
-                       const uint64_t *joint_rand, size_t joint_rand_len);
+/* PineType, on a full vector (row 1, input_len) with joint randomness (row 2, 3 elements). Rules 1 to 6, 19, 7,
+ * 13, 12. */
+PINE_MUST_USE PineCircuit pine_valid(PineParam param, uint64_t num_shares,
+                                     const uint64_t *full, size_t full_len,
+                                     const uint64_t *joint_rand, size_t joint_rand_len);
 
-/* PineTypeSquaredNormEqual, on a full vector (row 1, input_len); 0 as above. num_shares is tested, and
- * not used otherwise. Rules 1 to 6, 19, 7, 13, 12. */
-PineCircuit pine_valid_sq_norm_equal(PineParam param, uint64_t num_shares,
-                                     const uint64_t *full, size_t full_len);
+/* PineTypeSquaredNormEqual, on a full vector (row 1, input_len). It has no constants: num_shares is tested, and not
+ * used otherwise. Rules 1 to 6, 19, 7, 13, 12. */
+PINE_MUST_USE PineCircuit pine_valid_sq_norm_equal(PineParam param, uint64_t num_shares,
+                                                   const uint64_t *full, size_t full_len);
 
 /* Where the parts of a full vector (row 1, input_len) lie in it: the gradient, the checked elements, the
  * results. Rules 1 to 6, 19, 7, 12. */
-PinePart pine_gradient_part(PineParam param, const uint64_t *full, size_t full_len);
-PinePart pine_checked_part(PineParam param, const uint64_t *full, size_t full_len);
-PinePart pine_results_part(PineParam param, const uint64_t *full, size_t full_len);
+PINE_MUST_USE PinePart pine_gradient_part(PineParam param, const uint64_t *full, size_t full_len);
+PINE_MUST_USE PinePart pine_checked_part(PineParam param, const uint64_t *full, size_t full_len);
+PINE_MUST_USE PinePart pine_results_part(PineParam param, const uint64_t *full, size_t full_len);
 
 /* ---- aggregates, of d elements each */
 
 /* Makes the aggregate of no shares (row 1, written). Rules 1 to 6, 19, 7. */
-PineAnswer pine_empty_aggregate(PineParam param, uint64_t *row, size_t row_len);
+PINE_MUST_USE PineAnswer pine_empty_aggregate(PineParam param, uint64_t *row, size_t row_len);
 
 /* Adds a share (row 2) to an aggregate (row 1, written). Rules 1 to 6, 19, 7, 12. */
-PineAnswer pine_accumulate(PineParam param,
-                           uint64_t *agg, size_t agg_len,
-                           const uint64_t *share, size_t share_len);
+PINE_MUST_USE PineAnswer pine_accumulate(PineParam param,
+                                         uint64_t *agg, size_t agg_len,
+                                         const uint64_t *share, size_t share_len);
 
 /* Adds another aggregate (row 2) to an aggregate (row 1, written). Rules 1 to 6, 19, 7, 12. */
-PineAnswer pine_merge(PineParam param,
-                      uint64_t *agg, size_t agg_len,
-                      const uint64_t *other, size_t other_len);
+PINE_MUST_USE PineAnswer pine_merge(PineParam param,
+                                    uint64_t *agg, size_t agg_len,
+                                    const uint64_t *other, size_t other_len);
 
 /* Takes a share (row 2) out of an aggregate (row 1, written), whether or not it was added. Rules 1 to 6, 19,
  * 7, 12. */
-PineAnswer pine_subtract(PineParam param,
-                         uint64_t *agg, size_t agg_len,
-                         const uint64_t *share, size_t share_len);
+PINE_MUST_USE PineAnswer pine_subtract(PineParam param,
+                                       uint64_t *agg, size_t agg_len,
+                                       const uint64_t *share, size_t share_len);
 
 /* Takes another aggregate (row 2) out of an aggregate (row 1, written). Rules 1 to 6, 19, 7, 12. */
-PineAnswer pine_unmerge(PineParam param,
-                        uint64_t *agg, size_t agg_len,
-                        const uint64_t *other, size_t other_len);
+PINE_MUST_USE PineAnswer pine_unmerge(PineParam param,
+                                      uint64_t *agg, size_t agg_len,
+                                      const uint64_t *other, size_t other_len);
 
 /* Adds two aggregates (rows 1 and 2) and decodes the sums (row 3, written). Rules 1 to 6, 19, 7, 12. */
-PineAnswer pine_unshard(PineParam param,
-                        const uint64_t *left, size_t left_len,
-                        const uint64_t *right, size_t right_len,
-                        double *decoded, size_t decoded_len);
+PINE_MUST_USE PineAnswer pine_unshard(PineParam param,
+                                      const uint64_t *left, size_t left_len,
+                                      const uint64_t *right, size_t right_len,
+                                      double *decoded, size_t decoded_len);
 
 #ifdef __cplusplus
 }
@@ -309,6 +399,8 @@ PINE_ASSERT(offsetof(PineParam, alpha_denominator) == 58);
 PINE_ASSERT(offsetof(PineParam, wr_test_rule) == 60);
 PINE_ASSERT(offsetof(PineParam, true_sq_norm) == 61);
 PINE_ASSERT(sizeof(PineRecord) == 128);
+PINE_ASSERT(offsetof(PineRecord, wr_test_exponent) == 72);
+PINE_ASSERT(offsetof(PineRecord, wr_test_bits) == 80);
 PINE_ASSERT(sizeof(PineLengths) == 48);
 PINE_ASSERT(sizeof(PineDerived) == 248);
 PINE_ASSERT(sizeof(PineCoordinate) == 24);

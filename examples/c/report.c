@@ -1,7 +1,10 @@
 /* Reports from end to end: a client encodes a gradient and cuts it in two; each of two servers runs the
  * wraparound tests on its share and adds it to its aggregate; the two aggregates together give the sum of
  * the gradients. Then a report is withdrawn: each server takes out the share that it added. C11, and C++ as
- * well. */
+ * well.
+ *
+ * Before it is added, a report is checked on the sum of its two shares. That is for show: whoever adds them up sees
+ * the gradient. Servers that must not see it need an FLP proof, which this library leaves to others. */
 #include "pine.h"
 
 #include <stdio.h>
@@ -16,35 +19,9 @@ static const double gradients[REPORTS][DIMENSION] = {
     {0.0, 0.75, -6.5, 2.5, -10.0},
 };
 
-/* By number; 14 to 16 and 18 are no rules of these calls. */
-static const char *const rules[] = {
-    "accepted",
-    "num_wr_successes is above num_wr_tests",
-    "norm_bound is out of its limits",
-    "dimension is out of its limits",
-    "frac_bits is out of its limits",
-    "a chunk length is out of its limits",
-    "num_wr_tests is out of its limits",
-    "a row has another length than derived",
-    "a coordinate is NaN, infinite or subnormal",
-    "the gradient's length is not the dimension",
-    "the squared norm is above its bound",
-    "a wraparound test's result is out of range",
-    "an element is not below p",
-    "num_shares is out of its limits",
-    "",
-    "",
-    "",
-    "a coordinate's floor is out of the field's limits",
-    "",
-    "alpha_numerator or alpha_denominator is 0",
-    "too few wraparound tests are in range",
-    "the true squared norm is above its bound",
-};
-
 static void must(PineAnswer answer, const char *call) {
     if (answer.number != PINE_ACCEPTED) {
-        fprintf(stderr, "%s: %s (rule %u, place %lu)\n", call, rules[answer.number],
+        fprintf(stderr, "%s: %s (rule %u, place %lu)\n", call, pine_rule_text(answer.number),
                 (unsigned)answer.number, (unsigned long)answer.place);
         exit(1);
     }
@@ -59,8 +36,8 @@ static void *row(uint64_t len, size_t size) {
     return r;
 }
 
-/* A stand-in. The stream and the cut of a real report need a cryptographic source of randomness: what
- * the servers learn of a gradient depends on it. */
+/* A stand-in. The stream, the cut and the joint randomness of a real report need a cryptographic source: what the
+ * servers learn of a gradient, and what a client can feign, depends on it (README.md, "What it is not"). */
 static uint64_t state = UINT64_C(0x9e3779b97f4a7c15);
 
 static uint64_t next(void) {
@@ -98,7 +75,7 @@ static void print_sum(PineParam param, const uint64_t *left, const uint64_t *rig
 
 int main(void) {
     const PineParam param = pine_param_standard(
-        /* norm_bound: of the gradient times 2^frac_bits */ 1 << 12,
+        /* norm_bound: the largest norm, 16, in units of 2^-frac_bits, of which all coordinates are multiples */ 16 << 8,
         /* dimension */ DIMENSION,
         /* frac_bits */ 8,
         /* chunk_len */ 16,
@@ -150,8 +127,7 @@ int main(void) {
                  "run_wr_tests");
         }
 
-        /* Both circuits are 0 on the sum of the two full shares. (Servers that must not see that sum
-         * show the same by the FLP's proof, which this library leaves to others.) */
+        /* both circuits on the whole vector, hence num_shares 1; in one place for show */
         uint64_t joint_rand[PINE_JOINT_RAND_LEN] = {next_element(), next_element(), next_element()};
         for (size_t i = 0; i < input_len; i++) {
             full[i] = add(share[0][i], share[1][i]);
@@ -160,7 +136,7 @@ int main(void) {
         must(valid.answer, "valid");
         PineCircuit equal = pine_valid_sq_norm_equal(param, 1, full, input_len);
         must(equal.answer, "valid_sq_norm_equal");
-        if (valid.value != 0 || equal.value != 0) {
+        if (!pine_is_valid(valid) || !pine_is_valid(equal)) {
             fputs("an invalid report\n", stderr);
             return 1;
         }

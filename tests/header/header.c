@@ -1,0 +1,78 @@
+/* With other.c: what pine.h itself defines, from two units. Prints nothing if all is as it should be. */
+#include "pine.h"
+
+#include <stdio.h>
+#include <string.h>
+
+const char *text_elsewhere(uint64_t number); /* other.c */
+
+static int failed;
+
+static void check(int holds, const char *what) {
+    if (!holds) {
+        printf("FAILED: %s\n", what);
+        failed = 1;
+    }
+}
+
+/* Every rule has a text of its own, and every other number the same one. */
+static void texts(void) {
+    static const uint64_t rules[] = {0, 1, 2, 3, 4, 5, 6, 7, 8, 9, 10, 11, 12, 13, 17, 19, 20, 21};
+    static const uint64_t others[] = {14, 15, 16, 18, 22, UINT64_C(1) << 32, UINT64_MAX};
+    const size_t count = sizeof rules / sizeof *rules;
+    const char *const none = pine_rule_text(14);
+    for (size_t i = 0; i < count; i++) {
+        const char *text = pine_rule_text(rules[i]);
+        check(text[0] != '\0' && strcmp(text, none) != 0, "a rule has no text");
+        check(strcmp(text, text_elsewhere(rules[i])) == 0, "two units differ");
+        for (size_t j = 0; j < i; j++) {
+            check(strcmp(text, pine_rule_text(rules[j])) != 0, "two rules have one text");
+        }
+    }
+    for (size_t i = 0; i < sizeof others / sizeof *others; i++) {
+        check(strcmp(pine_rule_text(others[i]), none) == 0, "a number that is no rule has a text of its own");
+    }
+}
+
+static void is_at(uint64_t place, size_t row1_len, size_t row2_len, uint64_t row, uint64_t index) {
+    PineElementPlace at = pine_element_place(place, row1_len, row2_len);
+    check(at.row == row && at.index == index, "pine_element_place gives another element");
+}
+
+/* The place that a call answers leads to the element that was spoilt. */
+static void places(void) {
+    is_at(0, 2, 2, 1, 0);
+    is_at(1, 2, 2, 1, 1);
+    is_at(2, 2, 2, 2, 0);
+    is_at(3, 2, 2, 2, 1);
+    is_at(4, 2, 2, 0, 0);
+    is_at(2, 2, 0, 0, 0);
+    is_at(0, 0, 0, 0, 0);
+    is_at(UINT64_MAX, 2, 2, 0, 0);
+    const PineParam param = pine_param_standard(4096, 2, 8, 16, 2, 10, 10);
+    for (size_t spoilt = 0; spoilt < 4; spoilt++) {
+        uint64_t rows[4] = {1, 2, 3, 4};
+        rows[spoilt] = PINE_FIELD_MODULUS;
+        PineAnswer answer = pine_accumulate(param, rows, 2, rows + 2, 2);
+        check(answer.number == PINE_ELEMENT, "pine_accumulate takes what is no element");
+        is_at(answer.place, 2, 2, 1 + spoilt / 2, spoilt % 2);
+    }
+}
+
+/* A circuit that refuses has the value 0, and is not valid. */
+static void validity(void) {
+    const PineParam param = pine_param_standard(4096, 2, 8, 16, 2, 10, 10);
+    const uint64_t row = 0;
+    PineCircuit refused = pine_valid_sq_norm_equal(param, 1, &row, 0);
+    check(refused.answer.number == PINE_ROW_LEN && refused.value == 0, "pine_valid_sq_norm_equal takes an empty row");
+    check(!pine_is_valid(refused), "a refused circuit is valid");
+    PineCircuit zero = {{0, 0}, 0, 1}, one = {{0, 0}, 1, 1};
+    check(pine_is_valid(zero) && !pine_is_valid(one), "pine_is_valid reads another value");
+}
+
+int main(void) {
+    texts();
+    places();
+    validity();
+    return failed;
+}
