@@ -27,7 +27,7 @@ fn main() {
 }
 
 fn folders() -> Vec<PathBuf> {
-    if let Some(named) = env::var_os("PINE_LIB_DIR") {
+    if let Some(named) = env::var_os("PINE_LIB_DIR").filter(|named| !named.is_empty()) {
         return vec![PathBuf::from(named)];
     }
     let here = PathBuf::from(env::var_os("CARGO_MANIFEST_DIR").expect("cargo sets it"));

@@ -66,8 +66,8 @@ pub enum WrTestRule {
 }
 
 impl PineParam {
-    /// The inputs with which the calls equal the original, which has no others: alpha is 87 / 10, every test must be in
-    /// range, the switch is off.
+    /// The inputs with which the calls equal the original, which has no others, but for
+    /// [`Rule::Floor`](crate::Rule::Floor): alpha is 87 / 10, every test must be in range, the switch is off.
     pub const fn standard(
         norm_bound: u64,
         dimension: u64,

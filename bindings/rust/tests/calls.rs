@@ -19,6 +19,11 @@ fn refused<T: std::fmt::Debug + PartialEq>(given: Result<T, Error>, rule: Rule, 
     assert_eq!(given, Err(Error { rule, place }));
 }
 
+// the next double away from zero
+fn farther(x: f64) -> f64 {
+    f64::from_bits(x.to_bits() + 1)
+}
+
 #[test]
 fn coordinates() {
     assert_eq!(f64_to_field(-0.25, 0), Ok(18446744069414584320));
@@ -39,8 +44,8 @@ fn coordinates() {
         let top = 9223372034707292160.0 / (1u64 << f) as f64;
         assert_eq!(f64_to_field(top, f), Ok((P - 1) / 2));
         assert_eq!(f64_to_field(-top, f), Ok(P.div_ceil(2)));
-        refused(f64_to_field(top.next_up(), f), Rule::Floor, 0);
-        refused(f64_to_field((-top).next_down(), f), Rule::Floor, 0);
+        refused(f64_to_field(farther(top), f), Rule::Floor, 0);
+        refused(f64_to_field(farther(-top), f), Rule::Floor, 0);
         refused(f64_to_field(f64::MAX, f), Rule::Floor, 0);
     }
     refused(f64_to_field(f64::NAN, 31), Rule::FracBits, 0);
