@@ -4,8 +4,8 @@
 //!     cargo run --example server
 //!
 //! FOR SHOW both servers are in this process, and so are the clients; and the two full shares of a report are added in
-//! one place, where the circuits look at the whole. Whoever does that sees the report: servers that must not need an FLP
-//! proof, which this crate does not have.
+//! one place, where the circuits look at the whole. Whoever does that sees the report: servers that must not need an
+//! FLP proof, which this crate does not have.
 use client::{inputs, minus, report, NotForUse, Report};
 use jihmeto_pine::{Aggregate, Error, Full, FullShare, Pine, Share, FIELD_MODULUS, JOINT_RAND_LEN};
 

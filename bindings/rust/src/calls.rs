@@ -85,8 +85,8 @@ pub fn derive(param: PineParam) -> Result<Derived, Error> {
 ///
 /// # Errors
 ///
-/// Rules 4, 8, 17, in this order, place 0: [`FracBits`](crate::Rule::FracBits), [`Coordinate`](crate::Rule::Coordinate),
-/// [`Floor`](crate::Rule::Floor).
+/// Rules 4, 8, 17, in this order, place 0: [`FracBits`](crate::Rule::FracBits),
+/// [`Coordinate`](crate::Rule::Coordinate), [`Floor`](crate::Rule::Floor).
 pub fn f64_to_field(x: f64, frac_bits: u64) -> Result<u64, Error> {
     // SAFETY: numbers by value.
     let coordinate = unsafe { ffi::pine_f64_to_field(x, frac_bits) };
@@ -209,9 +209,9 @@ pub fn valid(
 
 /// The norm circuit, `PineTypeSquaredNormEqual`, on a full vector: the squared norm is the gradient's.
 ///
-/// **`Ok` means that the arguments were in order; the report is valid where the value is 0**
-/// ([`Circuit::is_valid`]), and that of [`valid`] too. `num_shares` is what it is there, is tested, and has no other use
-/// here: this circuit has no constants. The values on two shares do not add up to the value on the whole.
+/// **`Ok` means that the arguments were in order; the report is valid where the value is 0** ([`Circuit::is_valid`]),
+/// and that of [`valid`] too. `num_shares` is what it is there, is tested, and has no other use here: this circuit has
+/// no constants. The values on two shares do not add up to the value on the whole.
 ///
 /// # Errors
 ///

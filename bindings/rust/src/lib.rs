@@ -1,7 +1,7 @@
 //! PINE reports over Field64: a client encodes a gradient, servers add shares of it. For x86-64 only.
 //!
-//! Safe functions over the calls of `libpine_c.a`, which are proved: each ends for any arguments, stays inside its rows,
-//! and gives exactly what its definition says. A function here only hands rows over and turns the answer into a
+//! Safe functions over the calls of `libpine_c.a`, which are proved: each ends for any arguments, stays inside its
+//! rows, and gives exactly what its definition says. A function here only hands rows over and turns the answer into a
 //! [`Result`]; its `# Errors` say by which [`Rule`]s it refuses, in the order in which they are tested. A refused call
 //! leaves every row as it was. docs/PINE.md of the project says what each call computes.
 //!
@@ -23,20 +23,23 @@
 //! # }
 //! ```
 //!
-//! A field number is a `u64` below [`FIELD_MODULUS`]. No call keeps state, and none allocates, but for those of [`Pine`]
-//! that give a `Vec`. The floating-point environment must be the default one, as it must be for Rust itself.
+//! A field number is a `u64` below [`FIELD_MODULUS`]. No call keeps state, and none allocates, but for those of
+//! [`Pine`] that give a `Vec`. The floating-point environment must be the default one, as it must be for Rust itself.
 //!
 //! # What it is not
 //!
-//! - **Not a whole VDAF.** There is no FLP proof, query or decide, no prepare, no sharding, no XOF and no message format.
-//!   **Two servers that hold only shares cannot check a report with this alone**: both circuits multiply elements, so
-//!   their values on two shares do not add up to the value on the whole, and a value of 0 says something of a whole vector
-//!   only. The example `server` adds the two full shares in one place for show; whoever does so sees the report.
-//! - **No randomness of its own.** The caller brings all of it, and no theorem says what poor randomness costs: the stream
-//!   of the wraparound tests (uniform random bytes, new for each report, the same for the client and both servers, not of
-//!   the client's choosing), the cut of a measurement in two (one row of uniform random field numbers, secret, new for
-//!   each report, from a cryptographic generator; the other row is the difference), and the joint randomness (uniform
-//!   field numbers that the client could not foresee when it fixed its report).
+//! - **Not a whole VDAF.** There is no FLP proof, query or decide, no prepare, no sharding, no XOF and no message
+//!   format. **Two servers that hold only shares cannot check a report with this alone**: both circuits multiply
+//!   elements, so their values on two shares do not add up to the value on the whole, and a value of 0 says something
+//!   of a whole vector only. The example `server` adds the two full shares in one place for show; whoever does so sees
+//!   the report.
+//! - **No randomness of its own.** The caller brings all of it, and no theorem says what poor randomness costs:
+//!   - the stream of the wraparound tests: uniform random bytes, new for each report, the same for the client and both
+//!     servers, and not of the client's choosing;
+//!   - the cut of a measurement in two: one row of uniform random field numbers, secret, new for each report, from a
+//!     cryptographic generator; the other row is the difference;
+//!   - the joint randomness r1, r2, r3: uniform field numbers that the client could not foresee when it fixed its
+//!     report.
 //! - **Time is not constant.** It depends on the inputs, the lengths and the data.
 //! - **Nothing is said of privacy**, and no noise is added.
 //! - **No error rate as a whole**: docs/SOUNDNESS.md of the project has that of the main circuit alone.

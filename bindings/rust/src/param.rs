@@ -3,10 +3,10 @@ use crate::ffi;
 
 /// The inputs. Begin from [`PineParam::standard`].
 ///
-/// The bound b of the wraparound tests is the smallest power of two not below ceil(alpha · norm_bound) + 1, alpha being a
-/// fraction of two inputs. A result from -b + 1 to b is in range, so a smaller b refuses more streams by
-/// [`Rule::WrTest`](crate::Rule::WrTest), and a larger one lets more gradients pass whose squared norm has wrapped around
-/// p; how many, no proof says. Each time b doubles, a measurement has num_wr_tests elements more.
+/// The bound b of the wraparound tests is the smallest power of two not below ceil(alpha · norm_bound) + 1, alpha being
+/// a fraction of two inputs. A result from -b + 1 to b is in range, so a smaller b refuses more streams by
+/// [`Rule::WrTest`](crate::Rule::WrTest), and a larger one lets more gradients pass whose squared norm has wrapped
+/// around p; how many, no proof says. Each time b doubles, a measurement has num_wr_tests elements more.
 ///
 /// docs/PINE.md of the project, "Choosing the inputs", has what each costs.
 ///
@@ -23,8 +23,8 @@ use crate::ffi;
 #[derive(Clone, Copy, Debug, PartialEq, Eq, Hash)]
 #[must_use]
 pub struct PineParam {
-    /// The bound of the norm of the floors of the gradient times 2^frac_bits, from 1 to 3037000499. So it is in units of
-    /// 2^-frac_bits: with ceil(β · 2^frac_bits + √dimension) no gradient of Euclidean norm up to β is refused by
+    /// The bound of the norm of the floors of the gradient times 2^frac_bits, from 1 to 3037000499. So it is in units
+    /// of 2^-frac_bits: with ceil(β · 2^frac_bits + √dimension) no gradient of Euclidean norm up to β is refused by
     /// [`Rule::SqNorm`](crate::Rule::SqNorm) or [`Rule::TrueSqNorm`](crate::Rule::TrueSqNorm).
     pub norm_bound: u64,
     /// The length of the gradient, from 1 to 65536.
@@ -53,8 +53,8 @@ pub struct PineParam {
 
 /// Which of the wraparound tests must be in range for a gradient to be encoded.
 ///
-/// By [`WrTestRule::Enough`] a client is no longer refused for a test that misses by chance: it is written as zeros, and
-/// does not count. In return up to num_wr_tests - num_wr_successes tests of an accepted report may have missed; the
+/// By [`WrTestRule::Enough`] a client is no longer refused for a test that misses by chance: it is written as zeros,
+/// and does not count. In return up to num_wr_tests - num_wr_successes tests of an accepted report may have missed; the
 /// circuits show, as by the other rule, that num_wr_successes succeeded. Only encoding depends on the rule, and servers
 /// need not know it.
 #[derive(Clone, Copy, Debug, PartialEq, Eq, Hash)]

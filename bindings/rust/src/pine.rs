@@ -21,8 +21,8 @@ pub struct Encoded {
 /// Inputs that were accepted, with what follows from them, and the calls with these inputs.
 ///
 /// Each method is the call of its name; one that ends in `_into` writes the caller's rows, and the one without gives a
-/// `Vec` (feature `alloc`). The rules on the inputs, which every call tests, are met by then: a method's `# Errors` names
-/// those that are left, in the order in which they are tested. A refused call leaves every row as it was.
+/// `Vec` (feature `alloc`). The rules on the inputs, which every call tests, are met by then: a method's `# Errors`
+/// names those that are left, in the order in which they are tested. A refused call leaves every row as it was.
 #[derive(Clone, Copy, Debug, PartialEq)]
 #[must_use]
 pub struct Pine {
@@ -206,9 +206,9 @@ impl Pine {
         calls::valid(self.param, 1, full.row(), joint_rand)
     }
 
-    /// The main circuit on one of `num_shares` full shares, 1 to 255 of them: each share takes its part of the circuit's
-    /// constants. The values on the shares do not add up to the value on the whole, so this is of use to who adds an FLP
-    /// proof, and says nothing of the report by itself.
+    /// The main circuit on one of `num_shares` full shares, 1 to 255 of them: each share takes its part of the
+    /// circuit's constants. The values on the shares do not add up to the value on the whole, so this is of use to
+    /// those who add an FLP proof, and says nothing of the report by itself.
     ///
     /// # Errors
     ///
@@ -223,7 +223,8 @@ impl Pine {
         calls::valid(self.param, num_shares, share.row(), joint_rand)
     }
 
-    /// The norm circuit on a whole full vector: [`valid_sq_norm_equal`](crate::valid_sq_norm_equal()) with num_shares 1.
+    /// The norm circuit on a whole full vector, with num_shares 1:
+    /// [`valid_sq_norm_equal`](crate::valid_sq_norm_equal()).
     ///
     /// **`Ok` means that the arguments were in order; the report is valid where [`Circuit::is_valid`]**, here and of
     /// [`valid`](Pine::valid).
@@ -235,8 +236,8 @@ impl Pine {
         calls::valid_sq_norm_equal(self.param, 1, full.row())
     }
 
-    /// The norm circuit on one of `num_shares` full shares, 1 to 255 of them, a number that it tests and does not use. The
-    /// values on the shares do not add up to the value on the whole, as in [`valid_share`](Pine::valid_share).
+    /// The norm circuit on one of `num_shares` full shares, 1 to 255 of them, a number that it tests and does not use.
+    /// The values on the shares do not add up to the value on the whole, as in [`valid_share`](Pine::valid_share).
     ///
     /// # Errors
     ///
@@ -302,7 +303,7 @@ impl Pine {
     ///
     /// # Errors
     ///
-    /// None of this crate's archive.
+    /// None: the inputs are accepted, and the row has its length.
     #[cfg(feature = "alloc")]
     pub fn empty_aggregate(&self) -> Result<Aggregate<Vec<u64>>, Error> {
         let mut agg = Aggregate::new(vec![0; self.dimension()]);

@@ -46,8 +46,8 @@ row! {
     Gradient of f64
 }
 row! {
-    /// An encoded gradient, whole: encoded_input_len field numbers. A client keeps it, and gives each of two servers one
-    /// of two rows that add up to it.
+    /// An encoded gradient, whole: encoded_input_len field numbers. A client keeps it, and gives each of two servers
+    /// one of two rows that add up to it.
     Measurement of u64
 }
 row! {
@@ -55,18 +55,18 @@ row! {
     Results of u64
 }
 row! {
-    /// A full vector, whole: a measurement, then its results; input_len field numbers. It is what two full shares add up
-    /// to, and whoever has it sees the report.
+    /// A full vector, whole: a measurement, then its results; input_len field numbers. It is what two full shares add
+    /// up to, and whoever has it sees the report.
     Full of u64
 }
 row! {
-    /// A server's full share: its row of the cut measurement, then the results of the tests on the row's first dimension
-    /// elements; input_len field numbers.
+    /// A server's full share: its row of the cut measurement, then the results of the tests on the row's first
+    /// dimension elements; input_len field numbers.
     FullShare of u64
 }
 row! {
-    /// A share as it is tested, added and taken out: the first dimension elements of a server's row. Its output share, in
-    /// the VDAF draft's words.
+    /// A share as it is tested, added and taken out: the first dimension elements of a server's row. Its output share,
+    /// in the VDAF draft's words.
     ///
     /// It has an aggregate's length, and is no aggregate:
     ///
