@@ -1,5 +1,5 @@
-//! Finds libpine_c.a: in the folder that PINE_LIB_DIR names; without one in build/ of the repository, where `make lib`
-//! writes it, or else in target/staticlib/, where the prover does.
+//! Finds libpine_c.a: in the folder that PINE_LIB_DIR names, an absolute path; without one in build/ of the repository,
+//! where `make lib` writes it, or else in target/staticlib/, where the prover does.
 use std::env;
 use std::path::PathBuf;
 
@@ -28,7 +28,15 @@ fn main() {
 
 fn folders() -> Vec<PathBuf> {
     if let Some(named) = env::var_os("PINE_LIB_DIR").filter(|named| !named.is_empty()) {
-        return vec![PathBuf::from(named)];
+        let folder = PathBuf::from(named);
+        // this script runs in another folder than the one that the caller is in
+        if folder.is_relative() {
+            stop(&format!(
+                "PINE_LIB_DIR={} is not absolute",
+                folder.display()
+            ));
+        }
+        return vec![folder];
     }
     let here = PathBuf::from(env::var_os("CARGO_MANIFEST_DIR").expect("cargo sets it"));
     let root = here.join("../..").canonicalize().unwrap_or(here);

@@ -1,6 +1,6 @@
 //! The calls as include/pine.h declares them.
 use crate::param::{Lengths, PineParam, Record, WrTestRule};
-use core::mem::{offset_of, size_of};
+use core::mem::{align_of, offset_of, size_of};
 
 /// `PineParam` of the header.
 #[repr(C)]
@@ -89,11 +89,11 @@ pub type Layout = (
     &'static [(&'static str, &'static str, usize)],
 );
 
-/// Has the compiler test each struct's size, and the type and offset of each field.
+/// Has the compiler test each struct's size and alignment, and the type and offset of each field.
 macro_rules! layouts {
     ($($struct:ident is $name:literal, $size:literal: $($field:ident: $type:ident = $offset:literal),*;)*) => {
         $(const _: () = {
-            assert!(size_of::<$struct>() == $size);
+            assert!(size_of::<$struct>() == $size && align_of::<$struct>() == 8);
             $(
                 assert!(offset_of!($struct, $field) == $offset);
                 let _: fn(&$struct) -> &$type = |of| &of.$field;

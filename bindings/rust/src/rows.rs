@@ -62,6 +62,24 @@ row! {
 row! {
     /// A server's full share: its row of the cut measurement, then the results of the tests on the row's first
     /// dimension elements; input_len field numbers.
+    ///
+    /// It has a full vector's length, and is not whole:
+    ///
+    /// ```
+    /// use jihmeto_pine::{Error, FullShare, Pine};
+    ///
+    /// fn value(pine: &Pine, share: &FullShare<&[u64]>) -> Result<u64, Error> {
+    ///     Ok(pine.valid_sq_norm_equal_share(2, share)?.value)
+    /// }
+    /// ```
+    ///
+    /// ```compile_fail,E0308
+    /// use jihmeto_pine::{Error, FullShare, Pine};
+    ///
+    /// fn value(pine: &Pine, share: &FullShare<&[u64]>) -> Result<u64, Error> {
+    ///     Ok(pine.valid_sq_norm_equal(share)?.value)
+    /// }
+    /// ```
     FullShare of u64
 }
 row! {
@@ -86,7 +104,7 @@ row! {
     /// }
     /// ```
     ///
-    /// Nor is a measurement, which is no share of itself:
+    /// And a whole measurement is no share:
     ///
     /// ```compile_fail,E0308
     /// use jihmeto_pine::{Aggregate, Error, Measurement, Pine};

@@ -1,4 +1,5 @@
-// What a person does at a prompt: the README's lines in another folder, the examples, a build without the archive.
+// What a person does at a prompt: the README's lines in another folder, a program without std, the examples, a build
+// without the archive.
 use std::path::{Path, PathBuf};
 use std::process::{Command, Output};
 use std::{env, fs};
@@ -63,6 +64,34 @@ fn the_lines_of_the_readme_work_from_another_folder() {
     }
     fs::remove_dir_all(&folder).unwrap();
     assert_eq!(last.as_deref(), Some("[1.5, 2.0]\n"));
+}
+
+#[test]
+fn without_features_core_is_enough() {
+    let folder = fresh(Path::new(env!("CARGO_TARGET_TMPDIR")).join("core"));
+    let manifest = format!(
+        "[package]\nname = \"core-alone\"\nedition = \"2021\"\n\
+         [lib]\npath = \"lib.rs\"\ncrate-type = [\"staticlib\"]\n\
+         [profile.dev]\npanic = \"abort\"\n\
+         [dependencies]\njihmeto-pine = {{ path = {HERE:?}, default-features = false }}\n\
+         [workspace]\n"
+    );
+    fs::write(folder.join("Cargo.toml"), manifest).unwrap();
+    // with std there would be a second panic handler, and with alloc no allocator
+    let program = "#![no_std]
+        #[panic_handler]
+        fn panic(_: &core::panic::PanicInfo) -> ! { loop {} }
+        #[no_mangle]
+        pub extern \"C\" fn check() -> bool {
+            jihmeto_pine::Pine::new(jihmeto_pine::PineParam::standard(1, 4, 0, 1, 1, 2, 2)).is_ok()
+        }";
+    fs::write(folder.join("lib.rs"), program).unwrap();
+    let built = Command::new(env!("CARGO"))
+        .args(["build", "--offline", "--quiet"])
+        .current_dir(&folder)
+        .env("CARGO_TARGET_DIR", folder.join("target"))
+        .output();
+    said(&built.unwrap());
 }
 
 fn example(words: &[&str]) -> Output {
@@ -170,6 +199,12 @@ fn the_archive_is_found_where_the_documentation_says() {
     let missing = run(Some(&named), "x86_64");
     assert!(!missing.status.success());
     assert!(text(&missing.stderr).contains("run 'make lib'"));
+    let relative = run(Some(Path::new("build")), "x86_64");
+    assert!(!relative.status.success());
+    assert_eq!(
+        text(&relative.stderr),
+        "jihmeto-pine: PINE_LIB_DIR=build is not absolute\n"
+    );
     put(&named);
     assert!(said(&run(Some(&named), "x86_64")).contains(&searched(&named)));
     let other = run(Some(&named), "aarch64");
