@@ -7,7 +7,7 @@
 //! one place, where the circuits look at the whole. Whoever does that sees the report: servers that must not need an
 //! FLP proof, which this crate does not have.
 use client::{inputs, minus, report, NotForUse, Report};
-use jihmeto_pine::{Aggregate, Error, Full, FullShare, Pine, Share, FIELD_MODULUS, JOINT_RAND_LEN};
+use jihmeto_pine::{Error, Full, FullShare, Pine, Share, FIELD_MODULUS, JOINT_RAND_LEN};
 
 // its main is not called here
 #[allow(dead_code)]
@@ -25,7 +25,10 @@ fn full_share(pine: &Pine, row: &[u64], stream: &[u8]) -> Result<FullShare<Vec<u
     // a row that is too short is refused by its length
     let share = Share::new(row.get(..pine.dimension()).unwrap_or(row));
     let results = pine.run_wr_tests(&share, stream)?;
-    Ok(FullShare::new([row, results.row()].concat()))
+    let full = FullShare::new([row, results.row()].concat());
+    // refuses a row of another length, and an element that is not below p
+    pine.checked_part(&full)?;
+    Ok(full)
 }
 
 /// FOR SHOW: the two full shares, added in one place.
@@ -62,26 +65,33 @@ fn main() -> Result<(), Error> {
     for gradient in &GRADIENTS {
         reports.push(report(&pine, gradient, &mut randomness)?);
     }
-    // and one whose client claims another squared norm than it has
-    let mut false_report = report(&pine, &GRADIENTS[0], &mut randomness)?;
-    let bit = &mut false_report.rows[0][pine.dimension()];
+    // and two false ones: of a client that claims another squared norm, and of one that sends too little
+    for _ in 0..2 {
+        reports.push(report(&pine, &GRADIENTS[0], &mut randomness)?);
+    }
+    let bit = &mut reports[3].rows[0][pine.dimension()];
     *bit = minus(*bit, 1);
-    reports.push(false_report);
+    reports[4].rows[1].pop();
 
-    let mut aggregates: [Aggregate<Vec<u64>>; 2] =
-        [pine.empty_aggregate()?, pine.empty_aggregate()?];
+    let mut aggregates = [pine.empty_aggregate()?, pine.empty_aggregate()?];
     let mut added = Vec::new();
-    for (number, report) in reports.iter().enumerate() {
-        let shares = full_shares(&pine, report)?;
+    for (number, report) in (1..).zip(&reports) {
+        let shares = match full_shares(&pine, report) {
+            Ok(shares) => shares,
+            Err(refusal) => {
+                println!("report {number}: {refusal}, not added");
+                continue;
+            }
+        };
         if !is_valid(&pine, &whole(&shares), &mut randomness)? {
-            println!("report {}: not valid, not added", number + 1);
+            println!("report {number}: not valid, not added");
             continue;
         }
         for (aggregate, share) in aggregates.iter_mut().zip(&shares) {
             pine.accumulate(aggregate, &pine.gradient_part(share)?)?;
         }
         added.push(shares);
-        println!("report {}: valid, added", number + 1);
+        println!("report {number}: valid, added");
     }
     let [left, right] = &aggregates;
     let sums = pine.unshard(left, right)?;

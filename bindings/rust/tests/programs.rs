@@ -142,6 +142,7 @@ fn the_servers_add_what_is_valid() {
             "report 2: valid, added",
             "report 3: valid, added",
             "report 4: not valid, not added",
+            "report 5: a row has another length than derived (rule 7, row 1), not added",
             "the sum of 3 gradients: [-1.5, -1.0, 1.5, 5.5, -9.875]",
             "without the second: [1.5, -1.5, -6.5, 6.5, -10.125]",
             "FOR SHOW: the shares were added in one place, and the randomness is NOT FOR USE",
