@@ -1,7 +1,14 @@
 //! Refusals.
 use core::fmt;
 
-/// A refusal: the first rule broken, and where.
+/// A refusal: the first rule broken, and where. Written out, it is one sentence.
+///
+/// ```
+/// use jihmeto_pine::field_to_f64;
+///
+/// let refusal = field_to_f64(u64::MAX, 0).unwrap_err();
+/// assert_eq!(refusal.to_string(), "an element is not below p (rule 12, element 0 of the rows read)");
+/// ```
 #[derive(Clone, Copy, Debug, PartialEq, Eq, Hash)]
 pub struct Error {
     /// The rule.
@@ -10,110 +17,106 @@ pub struct Error {
     pub place: u64,
 }
 
-/// The rules, with their numbers.
-#[derive(Clone, Copy, Debug, PartialEq, Eq, Hash)]
-#[non_exhaustive]
-#[repr(u64)]
-pub enum Rule {
-    /// num_wr_successes is above num_wr_tests.
-    NumWrSuccesses = 1,
-    /// norm_bound is 0 or above 3037000499.
-    NormBound = 2,
-    /// dimension is 0 or above 65536.
-    Dimension = 3,
-    /// frac_bits is above 30.
-    FracBits = 4,
-    /// A chunk length is 0 or above 65536.
-    ChunkLen = 5,
-    /// num_wr_tests is 0 or above 256.
-    NumWrTests = 6,
-    /// A row's length is other than derived. The place is the row, from 1, in the order of the
-    /// function's slices.
-    RowLen = 7,
-    /// A coordinate is NaN, infinite or subnormal. The place is its index.
-    Coordinate = 8,
-    /// The gradient's length is not the dimension.
-    GradientLen = 9,
-    /// The squared norm, as a field number, is above its bound.
-    SqNorm = 10,
-    /// By [`WrTestRule::Every`](crate::WrTestRule::Every), a wraparound test's result is out of range. The place
-    /// is the test, from 0.
-    WrTest = 11,
-    /// An element is not below p. The place is its index over the rows that are read, joined in order.
-    Element = 12,
-    /// num_shares is 0 or above 255.
-    NumShares = 13,
-    /// The floor of a coordinate is beyond (p - 1) / 2 either way. The place is its index; of this
-    /// rule and [`Rule::Coordinate`] the lower index is answered.
-    Floor = 17,
-    /// alpha_numerator or alpha_denominator is 0.
-    Alpha = 19,
-    /// By [`WrTestRule::Enough`](crate::WrTestRule::Enough), fewer than num_wr_successes tests are in range. The
-    /// place is how many are.
-    WrTestsInRange = 20,
-    /// With true_sq_norm on, the squared norm without reduction is above its bound.
-    TrueSqNorm = 21,
+macro_rules! rules {
+    ($($(#[$doc:meta])* $name:ident = $number:literal: $sentence:literal,)*) => {
+        /// The rules. A call tests its rules in one order and answers with the first that is broken: 1 to 6, 19, 7, 13,
+        /// 12, 8 with 17, 9, 21, 10, 11 or 20. docs/PINE.md of the project, "The rules", has the table.
+        #[derive(Clone, Copy, Debug, PartialEq, Eq, Hash)]
+        #[non_exhaustive]
+        pub enum Rule {
+            $(
+                #[doc = concat!("Rule ", $number, ": ", $sentence, ".")]
+                $(#[$doc])*
+                $name,
+            )*
+            /// A rule of this number, which no archive has that this crate was written for.
+            Other(u64),
+        }
+
+        impl Rule {
+            /// The rule's number in the header and in docs/PINE.md.
+            #[must_use]
+            pub const fn number(self) -> u64 {
+                match self {
+                    $(Rule::$name => $number,)*
+                    Rule::Other(number) => number,
+                }
+            }
+
+            pub(crate) const fn of(number: u64) -> Rule {
+                match number {
+                    $($number => Rule::$name,)*
+                    _ => Rule::Other(number),
+                }
+            }
+        }
+
+        impl fmt::Display for Rule {
+            fn fmt(&self, f: &mut fmt::Formatter<'_>) -> fmt::Result {
+                match self {
+                    $(Rule::$name => f.write_str($sentence),)*
+                    Rule::Other(_) => f.write_str("a rule is broken that this crate does not know"),
+                }
+            }
+        }
+    };
 }
 
-impl Rule {
-    /// The rule's number in the header and in docs/PINE.md.
-    pub fn number(self) -> u64 {
-        self as u64
-    }
+rules! {
+    NumWrSuccesses = 1: "num_wr_successes is above num_wr_tests",
+    NormBound = 2: "norm_bound is not from 1 to 3037000499",
+    Dimension = 3: "dimension is not from 1 to 65536",
+    FracBits = 4: "frac_bits is above 30",
+    ChunkLen = 5: "a chunk length is not from 1 to 65536",
+    NumWrTests = 6: "num_wr_tests is not from 1 to 256",
+    /// The place is the row, from 1, in the order of the call's rows.
+    RowLen = 7: "a row has another length than derived",
+    /// The place is its index.
+    Coordinate = 8: "a coordinate is NaN, infinite or subnormal",
+    GradientLen = 9: "the gradient's length is not the dimension",
+    /// That is the squared norm as a field number.
+    SqNorm = 10: "the squared norm is above its bound",
+    /// By [`WrTestRule::Every`](crate::WrTestRule::Every). The place is the test, from 0. Another stream may do.
+    WrTest = 11: "a wraparound test's result is out of range",
+    /// The place is its index over the rows of elements that are read, joined in order.
+    Element = 12: "an element is not below p",
+    NumShares = 13: "num_shares is not from 1 to 255",
+    /// The place is its index; of this rule and [`Rule::Coordinate`] the lower index is answered.
+    Floor = 17: "the floor of a coordinate is beyond (p - 1) / 2 either way",
+    Alpha = 19: "alpha_numerator or alpha_denominator is 0",
+    /// By [`WrTestRule::Enough`](crate::WrTestRule::Enough). The place is how many are in range. Another stream may do.
+    WrTestsInRange = 20: "fewer wraparound tests are in range than num_wr_successes",
+    /// With true_sq_norm on; that is the squared norm without reduction modulo p.
+    TrueSqNorm = 21: "the true squared norm is above its bound",
 }
 
 impl Error {
     /// The refusal that an answer is, if it is one.
-    pub(crate) fn of(number: u64, place: u64) -> Result<(), Error> {
-        let rule = match number {
-            0 => return Ok(()),
-            1 => Rule::NumWrSuccesses,
-            2 => Rule::NormBound,
-            3 => Rule::Dimension,
-            4 => Rule::FracBits,
-            5 => Rule::ChunkLen,
-            6 => Rule::NumWrTests,
-            7 => Rule::RowLen,
-            8 => Rule::Coordinate,
-            9 => Rule::GradientLen,
-            10 => Rule::SqNorm,
-            11 => Rule::WrTest,
-            12 => Rule::Element,
-            13 => Rule::NumShares,
-            17 => Rule::Floor,
-            19 => Rule::Alpha,
-            20 => Rule::WrTestsInRange,
-            21 => Rule::TrueSqNorm,
-            // no call of the archive that this crate was written for answers another number
-            _ => unreachable!("rule {number}: the archive is of another version"),
-        };
-        Err(Error { rule, place })
+    pub(crate) const fn of(number: u64, place: u64) -> Result<(), Error> {
+        if number == 0 {
+            return Ok(());
+        }
+        Err(Error {
+            rule: Rule::of(number),
+            place,
+        })
     }
 }
 
 impl fmt::Display for Error {
     fn fmt(&self, f: &mut fmt::Formatter<'_>) -> fmt::Result {
-        let place = self.place;
-        match self.rule {
-            Rule::NumWrSuccesses => write!(f, "num_wr_successes is above num_wr_tests"),
-            Rule::NormBound => write!(f, "norm_bound is not from 1 to 3037000499"),
-            Rule::Dimension => write!(f, "dimension is not from 1 to 65536"),
-            Rule::FracBits => write!(f, "frac_bits is above 30"),
-            Rule::ChunkLen => write!(f, "a chunk length is not from 1 to 65536"),
-            Rule::NumWrTests => write!(f, "num_wr_tests is not from 1 to 256"),
-            Rule::RowLen => write!(f, "row {place} has another length than derived"),
-            Rule::Coordinate => write!(f, "coordinate {place} is NaN, infinite or subnormal"),
-            Rule::GradientLen => write!(f, "the gradient's length is not the dimension"),
-            Rule::SqNorm => write!(f, "the squared norm is above its bound"),
-            Rule::WrTest => write!(f, "the result of wraparound test {place} is out of range"),
-            Rule::Element => write!(f, "element {place} of the rows is not below p"),
-            Rule::NumShares => write!(f, "num_shares is not from 1 to 255"),
-            Rule::Floor => write!(f, "the floor of coordinate {place} is beyond (p - 1) / 2"),
-            Rule::Alpha => write!(f, "alpha_numerator or alpha_denominator is 0"),
-            Rule::WrTestsInRange => write!(f, "only {place} wraparound tests are in range"),
-            Rule::TrueSqNorm => write!(f, "the true squared norm is above its bound"),
+        let Error { rule, place } = self;
+        write!(f, "{rule} (rule {}", rule.number())?;
+        match rule {
+            Rule::RowLen => write!(f, ", row {place}"),
+            Rule::Coordinate | Rule::Floor => write!(f, ", coordinate {place}"),
+            Rule::WrTest => write!(f, ", test {place}"),
+            Rule::Element => write!(f, ", element {place} of the rows read"),
+            Rule::WrTestsInRange => write!(f, ", {place} in range"),
+            Rule::Other(_) => write!(f, ", place {place}"),
+            _ => Ok(()),
         }?;
-        write!(f, " (rule {})", self.rule.number())
+        f.write_str(")")
     }
 }
 

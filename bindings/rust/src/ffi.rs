@@ -1,6 +1,6 @@
 //! The calls as include/pine.h declares them.
-use crate::{Lengths, Pine, PineParam, WrTestRule};
-use core::mem::{offset_of, size_of};
+use crate::param::{Lengths, PineParam, Record, WrTestRule};
+use core::mem::{align_of, offset_of, size_of};
 
 /// `PineParam` of the header.
 #[repr(C)]
@@ -17,14 +17,6 @@ pub struct Inputs {
     wr_test_rule: u8,
     true_sq_norm: u8,
 }
-
-const _: () = assert!(
-    size_of::<Inputs>() == 64
-        && offset_of!(Inputs, alpha_numerator) == 56
-        && offset_of!(Inputs, alpha_denominator) == 58
-        && offset_of!(Inputs, wr_test_rule) == 60
-        && offset_of!(Inputs, true_sq_norm) == 61
-);
 
 impl From<PineParam> for Inputs {
     fn from(param: PineParam) -> Inputs {
@@ -56,7 +48,7 @@ pub struct Answer {
 #[repr(C)]
 pub struct Derived {
     pub answer: Answer,
-    pub pine: Pine,
+    pub pine: Record,
     pub stream_len: u64,
     pub flp: Lengths,
     pub flp_sq_norm_equal: Lengths,
@@ -88,10 +80,90 @@ pub struct Part {
     pub len: u64,
 }
 
+/// A struct of the header as the tests hold it to the header's text: its name there, its size, and of each field the
+/// name, the type and the offset.
+#[cfg(test)]
+pub type Layout = (
+    &'static str,
+    usize,
+    &'static [(&'static str, &'static str, usize)],
+);
+
+/// Has the compiler test each struct's size and alignment, and the type and offset of each field.
+macro_rules! layouts {
+    ($($struct:ident is $name:literal, $size:literal: $($field:ident: $type:ident = $offset:literal),*;)*) => {
+        $(const _: () = {
+            assert!(size_of::<$struct>() == $size && align_of::<$struct>() == 8);
+            $(
+                assert!(offset_of!($struct, $field) == $offset);
+                let _: fn(&$struct) -> &$type = |of| &of.$field;
+            )*
+        };)*
+
+        #[cfg(test)]
+        pub const LAYOUTS: &[Layout] = &[
+            $(($name, $size, &[$((stringify!($field), stringify!($type), $offset)),*]),)*
+        ];
+    };
+}
+
+layouts! {
+    Answer is "PineAnswer", 16: number: u64 = 0, place: u64 = 8;
+    Inputs is "PineParam", 64:
+        norm_bound: u64 = 0,
+        dimension: u64 = 8,
+        frac_bits: u64 = 16,
+        chunk_len: u64 = 24,
+        chunk_len_sq_norm_equal: u64 = 32,
+        num_wr_tests: u64 = 40,
+        num_wr_successes: u64 = 48,
+        alpha_numerator: u16 = 56,
+        alpha_denominator: u16 = 58,
+        wr_test_rule: u8 = 60,
+        true_sq_norm: u8 = 61;
+    Record is "PineRecord", 128:
+        dimension: u64 = 0,
+        frac_bits: u64 = 8,
+        scale: f64 = 16,
+        chunk_len: u64 = 24,
+        chunk_len_sq_norm_equal: u64 = 32,
+        num_wr_tests: u64 = 40,
+        num_wr_successes: u64 = 48,
+        sq_norm_bound: u64 = 56,
+        sq_norm_bits: u64 = 64,
+        wr_test_exponent: u8 = 72,
+        wr_test_bits: u64 = 80,
+        bit_checked_len: u64 = 88,
+        encoded_input_len: u64 = 96,
+        input_len: u64 = 104,
+        gadget_calls: u64 = 112,
+        gadget_calls_sq_norm_equal: u64 = 120;
+    Lengths is "PineLengths", 48:
+        input_len: u64 = 0,
+        proof_len: u64 = 8,
+        verifier_len: u64 = 16,
+        joint_rand_len: u64 = 24,
+        prove_rand_len: u64 = 32,
+        query_rand_len: u64 = 40;
+    Derived is "PineDerived", 248:
+        answer: Answer = 0,
+        pine: Record = 16,
+        stream_len: u64 = 144,
+        flp: Lengths = 152,
+        flp_sq_norm_equal: Lengths = 200;
+    Coordinate is "PineCoordinate", 24: answer: Answer = 0, element: u64 = 16;
+    Decoded is "PineDecoded", 24: answer: Answer = 0, value: f64 = 16;
+    Circuit is "PineCircuit", 32: answer: Answer = 0, value: u64 = 16, gadget_calls: u64 = 24;
+    Part is "PinePart", 32: answer: Answer = 0, start: u64 = 16, len: u64 = 24;
+}
+
+// a row's length is a size_t there, and the lengths that are derived are 64-bit numbers
+const _: () = assert!(size_of::<usize>() == size_of::<u64>());
+
 extern "C" {
     pub fn pine_check_param(param: Inputs) -> Answer;
     pub fn pine_derive(param: Inputs) -> Derived;
-    pub fn pine_wr_test_bound(pine: Pine) -> u64;
+    pub fn pine_wr_test_bound(pine: Record) -> u64;
     pub fn pine_f64_to_field(x: f64, frac_bits: u64) -> Coordinate;
     pub fn pine_field_to_f64(y: u64, frac_bits: u64) -> Decoded;
     pub fn pine_encode_with_wr_joint_rand(

@@ -19,6 +19,11 @@ fn refused<T: std::fmt::Debug + PartialEq>(given: Result<T, Error>, rule: Rule, 
     assert_eq!(given, Err(Error { rule, place }));
 }
 
+// the next double away from zero
+fn farther(x: f64) -> f64 {
+    f64::from_bits(x.to_bits() + 1)
+}
+
 #[test]
 fn coordinates() {
     assert_eq!(f64_to_field(-0.25, 0), Ok(18446744069414584320));
@@ -39,8 +44,8 @@ fn coordinates() {
         let top = 9223372034707292160.0 / (1u64 << f) as f64;
         assert_eq!(f64_to_field(top, f), Ok((P - 1) / 2));
         assert_eq!(f64_to_field(-top, f), Ok(P.div_ceil(2)));
-        refused(f64_to_field(top.next_up(), f), Rule::Floor, 0);
-        refused(f64_to_field((-top).next_down(), f), Rule::Floor, 0);
+        refused(f64_to_field(farther(top), f), Rule::Floor, 0);
+        refused(f64_to_field(farther(-top), f), Rule::Floor, 0);
         refused(f64_to_field(f64::MAX, f), Rule::Floor, 0);
     }
     refused(f64_to_field(f64::NAN, 31), Rule::FracBits, 0);
@@ -80,11 +85,11 @@ fn inputs() {
     );
     refused(derive(param(1, 1, 0, 257, 1)), Rule::NumWrTests, 0);
     let derived = derive(param(1, 4, 0, 2, 2)).unwrap();
-    assert_eq!(derived.pine.sq_norm_bits, 1);
-    assert_eq!(derived.pine.wr_test_exponent, 4);
-    assert_eq!(derived.pine.wr_test_bound(), 16);
-    assert_eq!(derived.pine.wr_test_bits, 5);
-    assert_eq!(derived.pine.encoded_input_len, 18);
+    assert_eq!(derived.record.sq_norm_bits, 1);
+    assert_eq!(derived.record.wr_test_exponent, 4);
+    assert_eq!(derived.record.wr_test_bound(), 16);
+    assert_eq!(derived.record.wr_test_bits, 5);
+    assert_eq!(derived.record.encoded_input_len, 18);
     assert_eq!(derived.flp.input_len, 20);
     assert_eq!(derived.flp.joint_rand_len, JOINT_RAND_LEN as u64);
     assert_eq!(derived.stream_len, 2);
@@ -148,7 +153,7 @@ fn other_multipliers() {
         (1, 1, 8191, 8192),
     ] {
         let p = with_alpha(numerator, denominator, param(n, 4, 0, 2, 2));
-        let record = derive(p).unwrap().pine;
+        let record = derive(p).unwrap().record;
         assert_eq!(record.wr_test_bound(), bound);
         assert_eq!(record.wr_test_bits, 1 + u64::from(bound.trailing_zeros()));
         assert_eq!(
@@ -215,15 +220,15 @@ fn a_test_that_misses() {
 fn a_norm_that_wraps() {
     let wide = param(65536, 1, 0, 1, 1);
     let derived = derive(wide).unwrap();
-    assert_eq!(derived.pine.wr_test_bound(), 1048576);
-    let mut measurement = vec![0; derived.pine.encoded_input_len as usize];
+    assert_eq!(derived.record.wr_test_bound(), 1048576);
+    let mut measurement = vec![0; derived.record.encoded_input_len as usize];
     let mut results = [0];
     let gradient = [4294967296.0];
     assert_eq!(
         encode_with_wr_joint_rand(wide, &gradient, &[1], &mut measurement, &mut results),
         Ok(())
     );
-    let v: u64 = (0..derived.pine.sq_norm_bits as usize)
+    let v: u64 = (0..derived.record.sq_norm_bits as usize)
         .map(|i| measurement[1 + i] << i)
         .sum();
     assert_eq!(v, 4294967295);
@@ -349,12 +354,49 @@ fn errors_say_what_is_wrong() {
         error.to_string(),
         "norm_bound is not from 1 to 3037000499 (rule 2)"
     );
-    let error = field_to_f64(P, 0).unwrap_err();
-    assert_eq!(
-        error.to_string(),
-        "element 0 of the rows is not below p (rule 12)"
-    );
-    assert_eq!(error.rule.number(), 12);
+    let refusal = |number, place| {
+        Error {
+            rule: number,
+            place,
+        }
+        .to_string()
+    };
+    for (rule, place, sentence) in [
+        (
+            Rule::RowLen,
+            2,
+            "a row has another length than derived (rule 7, row 2)",
+        ),
+        (
+            Rule::Coordinate,
+            3,
+            "a coordinate is NaN, infinite or subnormal (rule 8, coordinate 3)",
+        ),
+        (
+            Rule::WrTest,
+            4,
+            "a wraparound test's result is out of range (rule 11, test 4)",
+        ),
+        (
+            Rule::Element,
+            5,
+            "an element is not below p (rule 12, element 5 of the rows read)",
+        ),
+        (
+            Rule::TrueSqNorm,
+            0,
+            "the true squared norm is above its bound (rule 21)",
+        ),
+        (
+            Rule::WrTestsInRange,
+            6,
+            "fewer wraparound tests are in range than num_wr_successes (rule 20, 6 in range)",
+        ),
+    ] {
+        assert_eq!(refusal(rule, place), sentence);
+        assert!(sentence.starts_with(&rule.to_string()));
+    }
+    assert_eq!(Rule::Element.number(), 12);
 }
 
 // xorshift: any numbers will do for a test
@@ -402,7 +444,7 @@ fn reports_cut_in_two() {
         };
         let d = d as usize;
         let derived = derive(p).unwrap();
-        let encoded_len = derived.pine.encoded_input_len as usize;
+        let encoded_len = derived.record.encoded_input_len as usize;
         let mut aggregates = [vec![5; d], vec![5; d]];
         for aggregate in &mut aggregates {
             empty_aggregate(p, aggregate).unwrap();
@@ -415,7 +457,7 @@ fn reports_cut_in_two() {
                 .map(|_| (draw.next() % 200_001) as f64 / 1024.0 - 97.0)
                 .collect();
             let stream: Vec<u8> = (0..derived.stream_len).map(|_| draw.next() as u8).collect();
-            let mut full = vec![5; derived.pine.input_len as usize];
+            let mut full = vec![5; derived.record.input_len as usize];
             let (measurement, results) = full.split_at_mut(encoded_len);
             match encode_with_wr_joint_rand(p, &gradient, &stream, measurement, results) {
                 Err(Error {
@@ -425,7 +467,7 @@ fn reports_cut_in_two() {
                 other => other.unwrap(),
             }
             // from -b + 1 to b
-            let bound = derived.pine.wr_test_bound();
+            let bound = derived.record.wr_test_bound();
             let in_range = |&&r: &&u64| add(r, bound - 1) < 2 * bound;
             let succeeded = full[encoded_len..].iter().filter(in_range).count();
             assert!(succeeded >= 15 && (enough || succeeded == 20));
@@ -447,12 +489,12 @@ fn reports_cut_in_two() {
             let given = valid(p, 1, &sum, &joint_rand).unwrap();
             assert_eq!(
                 (given.value, given.gadget_calls),
-                (0, derived.pine.gadget_calls)
+                (0, derived.record.gadget_calls)
             );
             let given = valid_sq_norm_equal(p, 1, &sum).unwrap();
             assert_eq!(
                 (given.value, given.gadget_calls),
-                (0, derived.pine.gadget_calls_sq_norm_equal)
+                (0, derived.record.gadget_calls_sq_norm_equal)
             );
             let parts = [
                 gradient_part(p, &sum).unwrap(),

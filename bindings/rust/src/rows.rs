@@ -1,0 +1,121 @@
+//! Rows by what they hold.
+
+macro_rules! row {
+    ($(#[$doc:meta])* $name:ident of $element:ty) => {
+        $(#[$doc])*
+        ///
+        /// `R` is any row of them: a slice, an array, a `Vec`. Nothing is tested when it is made: the calls do that.
+        #[derive(Clone, Copy, Debug, PartialEq, Eq, Hash)]
+        #[must_use]
+        #[repr(transparent)]
+        pub struct $name<R>(R);
+
+        impl<R> $name<R> {
+            /// Says that the row is one.
+            pub const fn new(row: R) -> $name<R> {
+                $name(row)
+            }
+
+            /// The row itself.
+            #[must_use]
+            pub fn into_row(self) -> R {
+                self.0
+            }
+        }
+
+        impl<R: AsRef<[$element]>> $name<R> {
+            /// Its elements.
+            #[must_use]
+            pub fn row(&self) -> &[$element] {
+                self.0.as_ref()
+            }
+        }
+
+        impl<R: AsMut<[$element]>> $name<R> {
+            /// Its elements, to be written.
+            #[must_use]
+            pub fn row_mut(&mut self) -> &mut [$element] {
+                self.0.as_mut()
+            }
+        }
+    };
+}
+
+row! {
+    /// A client's gradient: dimension doubles.
+    Gradient of f64
+}
+row! {
+    /// An encoded gradient, whole: encoded_input_len field numbers. A client keeps it, and gives each of two servers
+    /// one of two rows that add up to it.
+    Measurement of u64
+}
+row! {
+    /// The results of the wraparound tests: num_wr_tests field numbers.
+    Results of u64
+}
+row! {
+    /// A full vector, whole: a measurement, then its results; input_len field numbers. It is what two full shares add
+    /// up to, and whoever has it sees the report.
+    Full of u64
+}
+row! {
+    /// A server's full share: its row of the cut measurement, then the results of the tests on the row's first
+    /// dimension elements; input_len field numbers.
+    ///
+    /// It has a full vector's length, and is not whole:
+    ///
+    /// ```
+    /// use jihmeto_pine::{Error, FullShare, Pine};
+    ///
+    /// fn value(pine: &Pine, share: &FullShare<&[u64]>) -> Result<u64, Error> {
+    ///     Ok(pine.valid_sq_norm_equal_share(2, share)?.value)
+    /// }
+    /// ```
+    ///
+    /// ```compile_fail,E0308
+    /// use jihmeto_pine::{Error, FullShare, Pine};
+    ///
+    /// fn value(pine: &Pine, share: &FullShare<&[u64]>) -> Result<u64, Error> {
+    ///     Ok(pine.valid_sq_norm_equal(share)?.value)
+    /// }
+    /// ```
+    FullShare of u64
+}
+row! {
+    /// A share as it is tested, added and taken out: the first dimension elements of a server's row. Its output share,
+    /// in the VDAF draft's words.
+    ///
+    /// It has an aggregate's length, and is no aggregate:
+    ///
+    /// ```
+    /// use jihmeto_pine::{Aggregate, Error, Pine, Share};
+    ///
+    /// fn add(pine: &Pine, to: &mut Aggregate<&mut [u64]>, share: &Share<&[u64]>) -> Result<(), Error> {
+    ///     pine.accumulate(to, share)
+    /// }
+    /// ```
+    ///
+    /// ```compile_fail,E0308
+    /// use jihmeto_pine::{Aggregate, Error, Pine, Share};
+    ///
+    /// fn add(pine: &Pine, to: &mut Aggregate<&mut [u64]>, share: &Share<&[u64]>) -> Result<(), Error> {
+    ///     pine.merge(to, share)
+    /// }
+    /// ```
+    ///
+    /// And a whole measurement is no share:
+    ///
+    /// ```compile_fail,E0308
+    /// use jihmeto_pine::{Aggregate, Error, Measurement, Pine};
+    ///
+    /// fn add(pine: &Pine, to: &mut Aggregate<&mut [u64]>, whole: &Measurement<&[u64]>) -> Result<(), Error> {
+    ///     pine.accumulate(to, whole)
+    /// }
+    /// ```
+    Share of u64
+}
+row! {
+    /// The sum of shares, modulo p: dimension field numbers. An aggregate share, in the VDAF draft's words.
+    Aggregate of u64
+}

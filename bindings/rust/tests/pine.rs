@@ -1,0 +1,345 @@
+// The methods beside the functions over slices: the same answers, rows and values; and the order of the rules that the
+// documentation names.
+use jihmeto_pine::*;
+
+const P: u64 = FIELD_MODULUS;
+
+fn rule<T>(given: Result<T, Error>) -> Option<(Rule, u64)> {
+    given.err().map(|refusal| (refusal.rule, refusal.place))
+}
+
+fn small() -> PineParam {
+    PineParam::standard(1, 4, 0, 1, 1, 2, 2)
+}
+
+#[test]
+fn inputs_are_tested_in_the_order_of_the_documentation() {
+    let mut param = PineParam {
+        norm_bound: 0,
+        dimension: 0,
+        frac_bits: 31,
+        chunk_len: 0,
+        chunk_len_sq_norm_equal: 0,
+        num_wr_tests: 257,
+        num_wr_successes: 258,
+        alpha_numerator: 0,
+        ..small()
+    };
+    let mut step = |rule, mend: fn(&mut PineParam)| {
+        let refusal = Err(Error { rule, place: 0 });
+        assert_eq!(Pine::new(param).map(|_| ()), refusal);
+        assert_eq!(check_param(param), refusal);
+        assert_eq!(derive(param).map(|_| ()), refusal);
+        mend(&mut param);
+    };
+    step(Rule::NumWrSuccesses, |p| p.num_wr_successes = 0);
+    step(Rule::NormBound, |p| p.norm_bound = 1);
+    step(Rule::Dimension, |p| p.dimension = 1);
+    step(Rule::FracBits, |p| p.frac_bits = 30);
+    step(Rule::ChunkLen, |p| p.chunk_len = 1);
+    step(Rule::ChunkLen, |p| p.chunk_len_sq_norm_equal = 65536);
+    step(Rule::NumWrTests, |p| p.num_wr_tests = 256);
+    step(Rule::Alpha, |p| p.alpha_numerator = 1);
+    assert!(Pine::new(param).is_ok());
+}
+
+#[test]
+fn a_pine_holds_its_inputs_and_lengths() {
+    let pine = Pine::new(small()).unwrap();
+    let derived = derive(small()).unwrap();
+    assert_eq!(pine.param(), small());
+    assert_eq!(pine.derived(), derived);
+    assert_eq!(pine.wr_test_bound(), 16);
+    let lengths = [
+        (pine.dimension(), 4),
+        (pine.num_wr_tests(), 2),
+        (pine.stream_len(), 2),
+        (pine.encoded_input_len(), 18),
+        (pine.input_len(), 20),
+    ];
+    for (length, expected) in lengths {
+        assert_eq!(length, expected);
+    }
+    let pine = Pine::new(PineParam {
+        frac_bits: 2,
+        ..small()
+    })
+    .unwrap();
+    assert_eq!(pine.f64_to_field(-0.3), f64_to_field(-0.3, 2));
+    assert_eq!(pine.field_to_f64(P - 1), Ok(-0.25));
+    assert_eq!(
+        rule(pine.f64_to_field(f64::NAN)),
+        Some((Rule::Coordinate, 0))
+    );
+    assert_eq!(rule(pine.f64_to_field(1e300)), Some((Rule::Floor, 0)));
+    assert_eq!(rule(pine.field_to_f64(P)), Some((Rule::Element, 0)));
+}
+
+#[test]
+fn a_row_that_says_what_it_is_costs_nothing() {
+    use std::mem::{align_of, size_of};
+    assert_eq!(size_of::<Share<&[u64]>>(), size_of::<&[u64]>());
+    assert_eq!(size_of::<Aggregate<[u64; 5]>>(), size_of::<[u64; 5]>());
+    assert_eq!(align_of::<Gradient<f64>>(), align_of::<f64>());
+    let mut row = [1, 2];
+    let mut agg = Aggregate::new(&mut row[..]);
+    agg.row_mut()[1] = 3;
+    assert_eq!(agg.row(), [1, 3]);
+    assert_eq!(agg.into_row(), [1, 3]);
+}
+
+#[test]
+fn encoding_tests_its_rules_in_the_order_of_the_documentation() {
+    let ask = |switch, wr_test_rule, gradient: &[f64], stream: &[u8], lengths: (usize, usize)| {
+        let pine = Pine::new(PineParam {
+            true_sq_norm: switch,
+            wr_test_rule,
+            alpha_numerator: 1,
+            alpha_denominator: 2,
+            norm_bound: 2,
+            ..small()
+        })
+        .unwrap();
+        assert_eq!((pine.encoded_input_len(), pine.stream_len()), (16, 2));
+        let gradient = Gradient::new(gradient);
+        let mut measurement = Measurement::new(vec![7; lengths.0]);
+        let mut results = Results::new(vec![7; lengths.1]);
+        let answer =
+            pine.encode_with_wr_joint_rand_into(&gradient, stream, &mut measurement, &mut results);
+        if answer.is_err() {
+            let mut row = measurement.into_row();
+            row.extend(results.into_row());
+            assert_eq!(row, vec![7; lengths.0 + lengths.1]);
+        }
+        rule(answer)
+    };
+    use WrTestRule::{Enough, Every};
+    // each line mends what the one before was refused by; the last stream misses in its second test
+    let far = [9.0, f64::NAN, 1e300];
+    let long = [9.0; 4];
+    assert_eq!(
+        ask(true, Every, &far, &[15], (1, 1)),
+        Some((Rule::RowLen, 2))
+    );
+    assert_eq!(
+        ask(true, Every, &far, &[15, 0], (1, 1)),
+        Some((Rule::RowLen, 3))
+    );
+    assert_eq!(
+        ask(true, Every, &far, &[15, 0], (16, 1)),
+        Some((Rule::RowLen, 4))
+    );
+    assert_eq!(
+        ask(true, Every, &far, &[15, 0], (16, 2)),
+        Some((Rule::Coordinate, 1))
+    );
+    assert_eq!(
+        ask(true, Every, &[9.0, 1e300], &[15, 0], (16, 2)),
+        Some((Rule::Floor, 1))
+    );
+    assert_eq!(
+        ask(true, Every, &long[1..], &[15, 0], (16, 2)),
+        Some((Rule::GradientLen, 0))
+    );
+    assert_eq!(
+        ask(true, Every, &long, &[15, 0], (16, 2)),
+        Some((Rule::TrueSqNorm, 0))
+    );
+    assert_eq!(
+        ask(false, Every, &long, &[15, 0], (16, 2)),
+        Some((Rule::SqNorm, 0))
+    );
+    assert_eq!(
+        ask(true, Every, &[1.0; 4], &[15, 0], (16, 2)),
+        Some((Rule::WrTest, 1))
+    );
+    assert_eq!(
+        ask(true, Enough, &[1.0; 4], &[15, 0], (16, 2)),
+        Some((Rule::WrTestsInRange, 1))
+    );
+    assert_eq!(ask(true, Every, &[1.0; 4], &[15, 15], (16, 2)), None);
+}
+
+#[test]
+fn circuits_test_their_rules_in_the_order_of_the_documentation() {
+    let pine = Pine::new(small()).unwrap();
+    let param = pine.param();
+    let wrong = [P; 20];
+    let share = FullShare::new(&wrong[..]);
+    let short = FullShare::new(&wrong[1..]);
+    let rand = [1, 1, P];
+    assert_eq!(
+        rule(pine.valid_share(0, &short, &rand)),
+        Some((Rule::RowLen, 1))
+    );
+    assert_eq!(
+        rule(pine.valid_sq_norm_equal_share(0, &short)),
+        Some((Rule::RowLen, 1))
+    );
+    assert_eq!(rule(valid(param, 0, &wrong, &[P])), Some((Rule::RowLen, 2)));
+    for num_shares in [0, 256] {
+        let refusal = Some((Rule::NumShares, 0));
+        assert_eq!(rule(pine.valid_share(num_shares, &share, &rand)), refusal);
+        assert_eq!(
+            rule(pine.valid_sq_norm_equal_share(num_shares, &share)),
+            refusal
+        );
+    }
+    assert_eq!(
+        rule(pine.valid_share(2, &share, &rand)),
+        Some((Rule::Element, 0))
+    );
+    assert_eq!(
+        rule(pine.valid_sq_norm_equal_share(255, &share)),
+        Some((Rule::Element, 0))
+    );
+    let full = Full::new([0; 20]);
+    assert_eq!(rule(pine.valid(&full, &rand)), Some((Rule::Element, 22)));
+    assert_eq!(
+        rule(pine.valid(&Full::new([0; 19]), &rand)),
+        Some((Rule::RowLen, 1))
+    );
+    assert_eq!(
+        rule(pine.valid_sq_norm_equal(&Full::new(wrong))),
+        Some((Rule::Element, 0))
+    );
+}
+
+#[test]
+fn a_report_is_valid_where_the_values_are_0() {
+    let pine = Pine::new(small()).unwrap();
+    let param = pine.param();
+    let mut full = [7; 20];
+    let (measurement, results) = full.split_at_mut(18);
+    let gradient = Gradient::new([1.0, 0.0, 0.0, 0.0]);
+    pine.encode_with_wr_joint_rand_into(
+        &gradient,
+        &[3, 0],
+        &mut Measurement::new(measurement),
+        &mut Results::new(results),
+    )
+    .unwrap();
+    let rand = [5, 6, 7];
+    let whole = Full::new(&full[..]);
+    assert!(pine.valid(&whole, &rand).unwrap().is_valid());
+    assert!(pine.valid_sq_norm_equal(&whole).unwrap().is_valid());
+    assert_eq!(pine.valid(&whole, &rand), valid(param, 1, &full, &rand));
+    assert_eq!(
+        pine.valid_sq_norm_equal(&whole),
+        valid_sq_norm_equal(param, 1, &full)
+    );
+    // one that is accepted, and not valid
+    let mut other = full;
+    other[4] = 0;
+    let other = Full::new(other);
+    assert!(!pine.valid(&other, &rand).unwrap().is_valid());
+    assert!(!pine.valid_sq_norm_equal(&other).unwrap().is_valid());
+    // the values on two shares do not add up to 0
+    let add = |a: u64, b: u64| ((u128::from(a) + u128::from(b)) % u128::from(P)) as u64;
+    let mut cut = [[0; 20]; 2];
+    for i in 0..20 {
+        cut[0][i] = 1000 + i as u64 * i as u64;
+        cut[1][i] = add(full[i], P - cut[0][i]);
+    }
+    let value = |i: usize| {
+        let share = FullShare::new(cut[i]);
+        let given = pine.valid_share(2, &share, &rand);
+        assert_eq!(given, valid(param, 2, &cut[i], &rand));
+        let norm = pine.valid_sq_norm_equal_share(2, &share);
+        assert_eq!(norm, valid_sq_norm_equal(param, 2, &cut[i]));
+        [given.unwrap().value, norm.unwrap().value]
+    };
+    for (left, right) in value(0).into_iter().zip(value(1)) {
+        assert_ne!(add(left, right), 0);
+    }
+}
+
+#[test]
+fn parts_and_tests_of_a_full_share() {
+    let pine = Pine::new(small()).unwrap();
+    let row: Vec<u64> = (1..=20).collect();
+    let mut full = FullShare::new(row.clone());
+    assert_eq!(pine.gradient_part(&full).unwrap().row(), &row[..4]);
+    assert_eq!(pine.checked_part(&full).unwrap(), &row[4..18]);
+    assert_eq!(pine.results_part(&full).unwrap().row(), &row[18..]);
+    let mut results = Results::new([7; 2]);
+    let share = Share::new(&row[..4]);
+    pine.run_wr_tests_into(&share, &[3, 0x0c], &mut results)
+        .unwrap();
+    let mut expected = [7; 2];
+    run_wr_tests(pine.param(), &row[..4], &[3, 0x0c], &mut expected).unwrap();
+    assert_eq!(results.row(), expected);
+    // 1 - 2 - 3 - 4, and -1 + 2 - 3 - 4
+    assert_eq!(expected, [P - 8, P - 6]);
+    let mut ask = |row: &[u64], stream: &[u8]| {
+        rule(pine.run_wr_tests_into(&Share::new(row), stream, &mut results))
+    };
+    assert_eq!(ask(&[P; 3], &[0]), Some((Rule::RowLen, 1)));
+    assert_eq!(ask(&[P; 4], &[0]), Some((Rule::RowLen, 2)));
+    assert_eq!(ask(&[1, P, 1, P], &[0, 0]), Some((Rule::Element, 1)));
+    full.row_mut()[9] = P;
+    assert_eq!(rule(pine.gradient_part(&full)), Some((Rule::Element, 9)));
+    assert_eq!(rule(pine.checked_part(&full)), Some((Rule::Element, 9)));
+    assert_eq!(rule(pine.results_part(&full)), Some((Rule::Element, 9)));
+    let short = FullShare::new(&row[1..]);
+    assert_eq!(rule(pine.gradient_part(&short)), Some((Rule::RowLen, 1)));
+}
+
+#[test]
+fn aggregates() {
+    let pine = Pine::new(PineParam {
+        dimension: 2,
+        ..small()
+    })
+    .unwrap();
+    let mut agg = Aggregate::new([7; 2]);
+    pine.empty_aggregate_into(&mut agg).unwrap();
+    assert_eq!(agg.row(), [0, 0]);
+    pine.accumulate(&mut agg, &Share::new([3, P - 1])).unwrap();
+    pine.merge(&mut agg, &Aggregate::new([1, 2])).unwrap();
+    assert_eq!(agg.row(), [4, 1]);
+    pine.subtract(&mut agg, &Share::new([5, 0])).unwrap();
+    assert_eq!(agg.row(), [P - 1, 1]);
+    pine.unmerge(&mut agg, &Aggregate::new([0, 2])).unwrap();
+    assert_eq!(agg.row(), [P - 1, P - 1]);
+    let mut decoded = [0.0; 2];
+    pine.unshard_into(&agg, &Aggregate::new([0, 3]), &mut decoded)
+        .unwrap();
+    assert_eq!(decoded, [-1.0, 2.0]);
+    let short = pine.accumulate(&mut agg, &Share::new([P]));
+    assert_eq!(rule(short), Some((Rule::RowLen, 2)));
+    let high = pine.unmerge(&mut agg, &Aggregate::new([0, P]));
+    assert_eq!(rule(high), Some((Rule::Element, 3)));
+    let short = pine.unshard_into(&agg, &agg, &mut decoded[1..]);
+    assert_eq!(rule(short), Some((Rule::RowLen, 3)));
+    assert_eq!((agg.row(), decoded), (&[P - 1, P - 1][..], [-1.0, 2.0]));
+}
+
+#[cfg(feature = "alloc")]
+#[test]
+fn calls_that_give_rows() {
+    let pine = Pine::new(small()).unwrap();
+    let gradient = Gradient::new(vec![1.0, 0.0, 0.0, 0.0]);
+    let Encoded {
+        measurement,
+        results,
+    } = pine.encode_with_wr_joint_rand(&gradient, &[3, 0]).unwrap();
+    assert_eq!(
+        measurement.row(),
+        [1, 0, 0, 0, 1, 0, 0, 0, 0, 0, 1, 1, 0, 1, 1, 1, 0, 1]
+    );
+    assert_eq!(results.row(), [1, P - 1]);
+    let share = Share::new(&measurement.row()[..4]);
+    assert_eq!(pine.run_wr_tests(&share, &[3, 0]), Ok(results));
+    let empty = pine.empty_aggregate().unwrap();
+    assert_eq!(empty.row(), [0; 4]);
+    let mut agg = empty.clone();
+    pine.accumulate(&mut agg, &share).unwrap();
+    assert_eq!(pine.unshard(&agg, &empty), Ok(vec![1.0, 0.0, 0.0, 0.0]));
+    let answer = pine.encode_with_wr_joint_rand(&gradient, &[3]);
+    assert_eq!(rule(answer), Some((Rule::RowLen, 2)));
+    let answer = pine.run_wr_tests(&Share::new([P; 4]), &[3, 0]);
+    assert_eq!(rule(answer), Some((Rule::Element, 0)));
+    let answer = pine.unshard(&agg, &Aggregate::new([0; 3]));
+    assert_eq!(rule(answer), Some((Rule::RowLen, 2)));
+}
