@@ -1,6 +1,6 @@
 """What the kinds of case share: docs/PINE.md's limits, lengths and rules, and ways to draw numbers and rows.
 
-Lengths, and what rules 10, 11, 17, 20 and 21 ask, are worked out here from documents 01 and 02 alone.
+Lengths, and what rules 10, 11, 17, 20 and 21 ask, are worked out here from docs/PINE.md alone.
 """
 
 import functools

@@ -1,8 +1,8 @@
 //! An Xof for the original that hands out bytes it was given, whatever the seed: one stream after the other.
 
 use prio_draft09::vdaf::xof::Xof;
-use rand_core::TryRng;
-use std::{cell::RefCell, convert::Infallible};
+use rand::generator;
+use std::cell::RefCell;
 
 #[derive(Default)]
 struct Queue {
@@ -38,23 +38,13 @@ impl Xof<16> for Given {
     }
 }
 
-impl TryRng for Given {
-    type Error = Infallible;
-    fn try_fill_bytes(&mut self, row: &mut [u8]) -> Result<(), Infallible> {
+impl Given {
+    fn fill(&mut self, row: &mut [u8]) {
         QUEUE.with_borrow_mut(|queue| {
             row.copy_from_slice(&queue.bytes[queue.taken..][..row.len()]);
             queue.taken += row.len();
         });
-        Ok(())
-    }
-    fn try_next_u32(&mut self) -> Result<u32, Infallible> {
-        let mut bytes = [0; 4];
-        self.try_fill_bytes(&mut bytes)?;
-        Ok(u32::from_le_bytes(bytes))
-    }
-    fn try_next_u64(&mut self) -> Result<u64, Infallible> {
-        let mut bytes = [0; 8];
-        self.try_fill_bytes(&mut bytes)?;
-        Ok(u64::from_le_bytes(bytes))
     }
 }
+
+generator!(Given);

@@ -1,4 +1,3 @@
-
 /// What the driver asks and cannot name from outside this module, called as it stands.
 pub mod opened {
     use super::{vdaf::PineVec, *};

@@ -1,5 +1,5 @@
-//! The same calls of the original. What documents 01 and 02 refuse is not put to it. With another multiplier than its own
-//! it is given the test bound that the driver works out, and where tests missed, a stream with which they do not.
+//! The same calls of the original. What docs/PINE.md refuses is not put to it. With another multiplier than its own it is
+//! given the test bound that the driver works out, and where tests missed, a stream with which they do not.
 
 use crate::{
     case::{Call, Case, Row},

@@ -1,4 +1,4 @@
-//! The inputs, their limits, and what documents 01 and 02 derive from them.
+//! The inputs, their limits, and what docs/PINE.md derives from them.
 
 /// p.
 pub const P: u64 = 0xffff_ffff_0000_0001;

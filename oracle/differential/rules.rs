@@ -1,4 +1,4 @@
-//! What a call must answer, by documents 01 and 02 alone.
+//! What a call must answer, by docs/PINE.md alone.
 
 use crate::{
     case::{Call, Case, Row},
@@ -112,9 +112,8 @@ fn rules_on_gradient(case: &Case) -> Option<Answer> {
 
 pub fn answer(case: &Case) -> Answer {
     let refusal = match case.call {
-        Call::F64ToField => rule_4(&case.param).or_else(|| {
-            whole::coordinate_rule(case.number, case.param.f).map(|number| Answer { number, place: 0 })
-        }),
+        Call::F64ToField => rule_4(&case.param)
+            .or_else(|| whole::coordinate_rule(case.number, case.param.f).map(|number| Answer { number, place: 0 })),
         Call::FieldToF64 => rule_4(&case.param).or(rule(12, case.number >= P)),
         _ => rules_on_inputs(&case.param)
             .or_else(|| rule_7(case))
