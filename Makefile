@@ -4,7 +4,7 @@
 #: make demo           a day on the farm: two controllers of valves, two servers, the sums
 #:                     needs the Rattle kit (rt on the PATH); some seconds
 #: make test           the gate: proves every crate from nothing, tries the edits that must fail, runs the programs
-#:                     needs the kit; about 35 minutes on two threads of one core
+#:                     needs the kit; about 40 minutes on two threads of one core
 #: make lib            build/libpine_c.a, proved, with pine.h beside it
 #:                     needs the kit; about 6 minutes from nothing, seconds where all is proved
 #: make install        copies both, and a file for pkg-config, under PREFIX (/usr/local); DESTDIR goes before that
