@@ -1,0 +1,2 @@
+-- `Examples`: worked rows of the inputs as C has them.
+mod Examples
