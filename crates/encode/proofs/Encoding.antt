@@ -29,6 +29,7 @@ use Rattle.flp.specs.Encode.{elements, sqNorm, resultsOf, measurementOf, coordi
 use Rattle.flp.proofs.TrueNorm.{norm-mod}
 use Rattle.measurement.specs.Parts.{Usable, checkedOf}
 use Rattle.gradient_rules.proofs.Searches.{all-usable}
+use Rattle.encode.specs.Late.{rowsAnswer, Rooms, lateAnswer, measurementWith, lateOf}
 
 -- each as the last rule of a chain
 every-last : (p b k : ℕ) (rs : List ℕ) → first (everyRule p b k rs) accepted ≡ everyRule p b k rs
@@ -52,6 +53,60 @@ len-last n d = go (eqb n d)
     go true = refl
     go false = refl
 
+-- ---- with the record of the inputs
+
+module _ (i : PineParam) (R : Pine) (is : R ≡ pineOf i) where
+  pub fraction-is : R .«frac_bits» ≡ i .«frac_bits»
+  unfolding pineOf
+  fraction-is = rw is
+
+  pub stream-is : streamLen (R .«num_wr_tests») (R .dimension) ≡ streamLen (i .«num_wr_tests») (i .dimension)
+  unfolding pineOf
+  stream-is = rw is
+
+  -- b, as the record answers for it
+  pub bound-is : paramAnswer Field64 i ≡ accepted → boundIn R ≡ wrTestBound i
+  bound-is e = ap boundIn is ∙ recovered-64 i e .bound
+
+  -- what Field64 has room for
+  pub bounds-fit : paramAnswer Field64 i ≡ accepted → (boundIn R ≤ p64) × ((0 < boundIn R) × (R .«sq_norm_bound» < p64))
+  unfolding pineOf
+  bounds-fit e = rw (bound-is e, is) (omega (arith, bound-64 i e), (bound-positive i, norm-64 i e))
+
+-- ---- from rule 21 on, the results given
+
+module _ (F : Field) (i : PineParam) (g : List Float) (found m r : List ℕ) (rooms : Rooms i g found m r) where
+  module _ (R : Pine) (is : R ≡ pineOf i) where
+    -- the rest of the measurement's row is as long as what follows the gradient
+    pub rest-long : length m ≡ length g + (2 * R .«sq_norm_bits» + (1 + R .«wr_test_bits») * length found)
+    unfolding pineOf encodedInputLen bitCheckedLen
+    rest-long = rw is (rooms .1 .1 .0 ∙ (λ j. sym (rooms .0) j + (2 * sqNormBits i + (1 + wrTestBits i) * sym (rooms .1 .0) j)))
+
+    -- what the code has found
+    module _ (b-is : boundIn R ≡ wrTestBound i) (positive : 0 < F .p) (sq v b : ℕ) (a : Answer) (eb : b ≡ boundIn R) (en : sq ≡ trueSqNorm (i .«frac_bits») g) (ev : v ≡ sq % F .p)
+        (ea : a ≡ first (trueSqNormRule (i .«true_sq_norm») sq (R .«sq_norm_bound»)) (first (sqNormRule v (R .«sq_norm_bound»)) (rangeRule (i .«wr_test_rule») (F .p) b (R .«num_wr_successes») found))) where
+      norm-is : v ≡ sqNorm (F .p) (elements (F .p) (i .«frac_bits») g)
+      norm-is = ev ∙ ap (λ (m : ℕ). m % F .p) en ∙ sym (norm-mod (F .p) positive (i .«frac_bits») g)
+
+      answer-is : lateAnswer F i g found m r ≡ a
+      unfolding pineOf
+      answer-is = sym (ea ∙ (λ j. first (trueSqNormRule (i .«true_sq_norm») (en j) (is j .«sq_norm_bound»)) (first (sqNormRule (norm-is j) (is j .«sq_norm_bound»)) (rangeRule (i .«wr_test_rule») (F .p) ((eb ∙ b-is) j) (is j .«num_wr_successes») found))))
+
+      pub late-refused : (a .number ≡ 0 → ⊥) → encodeOutcome a m r ≡ lateOf F i g found m r
+      unfolding lateOf
+      late-refused h = rw (answer-is, ne-eqb (a .number) 0 h)
+
+      module _ (m₁ : List ℕ) (em : m₁ ≡ elements (F .p) (R .«frac_bits») g ++ checkedOf (F .p) (R .«sq_norm_bits») v (subMod (F .p) (R .«sq_norm_bound») v) (R .«wr_test_bits») (boundIn R) (R .«num_wr_successes») found) where
+        written : m₁ ≡ measurementWith F i g found m r
+        unfolding pineOf
+        written = em ∙ (λ j. elements (F .p) (is j .«frac_bits») g ++ checkedOf (F .p) (is j .«sq_norm_bits») (norm-is j) (subMod (F .p) (is j .«sq_norm_bound») (norm-is j)) (is j .«wr_test_bits») (b-is j) (is j .«num_wr_successes») found)
+
+        pub late-accepted : (r₁ : List ℕ) → a .number ≡ 0 → r₁ ≡ found → encodeOutcome a m₁ r₁ ≡ lateOf F i g found m r
+        unfolding lateOf
+        late-accepted r₁ z er = rw (answer-is, eq-eqb (a .number) 0 z, written, er)
+
+-- ---- the whole call
+
 module _ (F : Field) (i : PineParam) (g : List Float) (s m r : List ℕ) where
   abbrev early : Answer
   early = inOrder (take 6 (encodeRules F i g s m r))
@@ -59,29 +114,26 @@ module _ (F : Field) (i : PineParam) (g : List Float) (s m r : List ℕ) where
   abbrev xs : List ℕ
   xs = elements (F .p) (i .«frac_bits») g
 
-  -- ---- rules 1 to 9, 17 and 19
-
-  -- one of the first six is broken
-  pub early-stopped : (a : Answer) → a ≡ paramAnswer F i → (a .number ≡ 0 → ⊥) → a ≡ early
-  unfolding encodeRules
-  early-stopped a e h = simp (← e, ne-eqb (a .number) 0 h)
-
-  -- the answers to those after
-  pub early-answer : (a₂ a₃ a₄ a₅ a₆ : Answer) → paramAnswer F i .number ≡ 0
+  -- rules 1 to 9, 17 and 19, the inputs accepted
+  pub early-is : (R : Pine) → R ≡ pineOf i → (a₂ a : Answer) → paramAnswer F i .number ≡ 0
       → a₂ ≡ rowRule 2 (length s) (streamLen (i .«num_wr_tests») (i .dimension))
-      → a₃ ≡ rowRule 3 (length m) (encodedInputLen i)
-      → a₄ ≡ rowRule 4 (length r) (i .«num_wr_tests»)
-      → a₅ ≡ coordinatesRule (F .floorLimit) (i .«frac_bits») 0 g
-      → a₆ ≡ gradientLenRule (length g) (i .dimension)
-      → first a₂ (first a₃ (first a₄ (first a₅ a₆))) ≡ early
-  unfolding encodeRules
-  early-answer a₂ a₃ a₄ a₅ a₆ h e₂ e₃ e₄ e₅ e₆ = simp (e₂, e₃, e₄, e₅, e₆, eq-eqb _ _ h, len-last (length g) (i .dimension))
+      → a ≡ rowsAnswer (F .floorLimit) R a₂ g m r → a ≡ early
+  unfolding encodeRules pineOf
+  early-is R is a₂ a h e₂ e = e ∙ simp (is, e₂, eq-eqb _ _ h, len-last (length g) (i .dimension))
 
   pub early-refused : (a : Answer) → a ≡ early → (a .number ≡ 0 → ⊥) → encodeOutcome a m r ≡ encodeOf F i g s m r
   unfolding encodeOf
   early-refused a e h =
       let f : encodeAnswer F i g s m r ≡ a = split 6 (encodeRules F i g s m r) ∙ first-refused early (inOrder (drop 6 (encodeRules F i g s m r))) (λ z. h (ap (λ (b : Answer). b .number) e ∙ z)) ∙ sym e in
       rw (f, ne-eqb (a .number) 0 h)
+
+  stopped : (a : Answer) → a ≡ paramAnswer F i → (a .number ≡ 0 → ⊥) → a ≡ early
+  unfolding encodeRules
+  stopped a e h = simp (← e, ne-eqb (a .number) 0 h)
+
+  -- one of the rules on the inputs is broken
+  pub inputs-refused : (a : Answer) → a ≡ paramAnswer F i → (a .number ≡ 0 → ⊥) → encodeOutcome a m r ≡ encodeOf F i g s m r
+  inputs-refused a e h = early-refused a (stopped a e h) h
 
   pub early-met : (a : Answer) → a ≡ early → a .number ≡ 0 → early ≡ accepted
   early-met a e h = accepted-whole (take 6 (encodeRules F i g s m r)) (ap (λ (b : Answer). b .number) (sym e) ∙ h)
@@ -123,74 +175,26 @@ module _ (F : Field) (i : PineParam) (g : List Float) (s m r : List ℕ) where
           let f : length s ≡ n * ((length g + 3) / 4) = ready .stream-long ∙ (λ j. sym (l ∙ ready .results-long) j * bytesPerTest (sym (ready .gradient-long) j)) in
           (le-of-eq (sym f), (omega arith, omega (arith, ready .gradient-long, ready .small .0)))
 
-      -- with the record of the inputs
-      module _ (R : Pine) (is : R ≡ pineOf i) (b-is : boundIn R ≡ wrTestBound i) where
-        abbrev ys : List ℕ
-        ys = elements (F .p) (R .«frac_bits») g
+    pub rooms : (found : List ℕ) → length found ≡ length r → Rooms i g found m r
+    rooms found l = (ready .gradient-long, (l ∙ ready .results-long, (ready .measurement-long, ready .results-long)))
 
-        -- the rest of the measurement's row is as long as what follows the gradient
-        pub rest-long : length m ≡ length g + (2 * R .«sq_norm_bits» + (1 + R .«wr_test_bits») * n)
-        unfolding pineOf encodedInputLen bitCheckedLen
-        rest-long = rw is (ready .measurement-long ∙ (λ j. sym (ready .gradient-long) j + (2 * sqNormBits i + (1 + wrTestBits i) * sym (l ∙ ready .results-long) j)))
+    -- when the results are those of the tests
+    module _ (found : List ℕ) (n : ℕ) (f : ℕ) (l : n ≡ length r) (f-is : f ≡ i .«frac_bits») (er : found ≡ testsOf (F .p) ((length g + 3) / 4) n s (elements (F .p) f g)) where
+      results-are : found ≡ resultsOf (F .p) i s xs
+      unfolding resultsOf
+      results-are = er ∙ (λ j. testsOf (F .p) (bytesPerTest (ready .gradient-long j)) ((l ∙ ready .results-long) j) s (elements (F .p) (f-is j) g))
 
-        -- what the code has found
-        module _ (sq v b : ℕ) (rs : List ℕ) (a : Answer) (eb : b ≡ boundIn R) (en : sq ≡ trueSqNorm (R .«frac_bits») g) (ev : v ≡ sq % F .p) (er : rs ≡ testsOf (F .p) ((length g + 3) / 4) n s ys)
-            (ea : a ≡ first (trueSqNormRule (i .«true_sq_norm») sq (R .«sq_norm_bound»)) (first (sqNormRule v (R .«sq_norm_bound»)) (rangeRule (i .«wr_test_rule») (F .p) b (R .«num_wr_successes») rs))) (positive : 0 < F .p) where
-          true-is : sq ≡ trueSqNorm (i .«frac_bits») g
-          unfolding pineOf
-          true-is = rw is at en
+      late : inOrder (drop 6 (encodeRules F i g s m r)) ≡ lateAnswer F i g found m r
+      unfolding encodeRules
+      late = rw (results-are, range-last (i .«wr_test_rule») (F .p) (wrTestBound i) (i .«num_wr_successes») (resultsOf (F .p) i s xs))
 
-          norm-is : v ≡ sqNorm (F .p) xs
-          norm-is = ev ∙ ap (λ (m : ℕ). m % F .p) true-is ∙ sym (norm-mod (F .p) positive (i .«frac_bits») g)
+      whole-is : encodeAnswer F i g s m r ≡ lateAnswer F i g found m r
+      whole-is = split 6 (encodeRules F i g s m r) ∙ first-passed early (inOrder (drop 6 (encodeRules F i g s m r))) (ap (λ (b : Answer). b .number) met) ∙ late
 
-          results-are : rs ≡ resultsOf (F .p) i s xs
-          unfolding pineOf resultsOf
-          results-are = er ∙ (λ j. testsOf (F .p) (bytesPerTest (ready .gradient-long j)) ((l ∙ ready .results-long) j) s (elements (F .p) (is j .«frac_bits») g))
-
-          late-is : a ≡ first (trueSqNormRule (i .«true_sq_norm») sq (sqNormBound i)) (first (sqNormRule v (sqNormBound i)) (rangeRule (i .«wr_test_rule») (F .p) (wrTestBound i) (i .«num_wr_successes») rs))
-          unfolding pineOf
-          late-is = ea ∙ (λ j. first (trueSqNormRule (i .«true_sq_norm») sq (is j .«sq_norm_bound»)) (first (sqNormRule v (is j .«sq_norm_bound»)) (rangeRule (i .«wr_test_rule») (F .p) ((eb ∙ b-is) j) (is j .«num_wr_successes») rs)))
-
-          late : inOrder (drop 6 (encodeRules F i g s m r)) ≡ first (trueSqNormRule (i .«true_sq_norm») sq (sqNormBound i)) (first (sqNormRule v (sqNormBound i)) (rangeRule (i .«wr_test_rule») (F .p) (wrTestBound i) (i .«num_wr_successes») rs))
-          unfolding encodeRules
-          late = rw (true-is, norm-is, results-are, range-last (i .«wr_test_rule») (F .p) (wrTestBound i) (i .«num_wr_successes») (resultsOf (F .p) i s xs))
-
-          answer-is : encodeAnswer F i g s m r ≡ a
-          answer-is = split 6 (encodeRules F i g s m r) ∙ first-passed early (inOrder (drop 6 (encodeRules F i g s m r))) (ap (λ (b : Answer). b .number) met) ∙ late ∙ sym late-is
-
-          pub late-refused : (a .number ≡ 0 → ⊥) → encodeOutcome a m r ≡ encodeOf F i g s m r
-          unfolding encodeOf
-          late-refused h = rw (answer-is, ne-eqb (a .number) 0 h)
-
-          module _ (m₁ r₁ : List ℕ) (z : a .number ≡ 0)
-              (em : m₁ ≡ ys ++ checkedOf (F .p) (R .«sq_norm_bits») v (subMod (F .p) (R .«sq_norm_bound») v) (R .«wr_test_bits») (boundIn R) (R .«num_wr_successes») rs) (e₁ : r₁ ≡ rs) where
-            written : m₁ ≡ measurementOf (F .p) i s xs
-            unfolding pineOf measurementOf
-            written =
-                em
-                ∙ (λ j. elements (F .p) (is j .«frac_bits») g ++ checkedOf (F .p) (is j .«sq_norm_bits») v (subMod (F .p) (is j .«sq_norm_bound») v) (is j .«wr_test_bits») (b-is j) (is j .«num_wr_successes») rs)
-                ∙ (λ j. xs ++ checkedOf (F .p) (sqNormBits i) (norm-is j) (subMod (F .p) (sqNormBound i) (norm-is j)) (wrTestBits i) (wrTestBound i) (i .«num_wr_successes») (results-are j))
-
-            pub done : encodeOutcome a m₁ r₁ ≡ encodeOf F i g s m r
-            unfolding encodeOf
-            done = rw (answer-is, eq-eqb (a .number) 0 z, written, e₁, results-are)
+      pub late-is : lateOf F i g found m r ≡ encodeOf F i g s m r
+      unfolding encodeOf lateOf measurementOf
+      late-is = rw (whole-is, results-are)
 
 -- a part of the row that is filled with 0 first
 pub part-long : (most n : ℕ) → n ≤ most → length (take n (replicate {A = ℕ} most 0)) ≡ n
 part-long most n h = length-take-le n (replicate {A = ℕ} most 0) (rw (length-replicate {A = ℕ} most 0) h)
-
--- ---- of the record
-
-module _ (i : PineParam) (R : Pine) (is : R ≡ pineOf i) where
-  pub fraction-is : R .«frac_bits» ≡ i .«frac_bits»
-  unfolding pineOf
-  fraction-is = rw is
-
-  -- b, as the record answers for it
-  pub bound-is : paramAnswer Field64 i ≡ accepted → boundIn R ≡ wrTestBound i
-  bound-is e = ap boundIn is ∙ recovered-64 i e .bound
-
-  -- what Field64 has room for
-  pub bounds-fit : paramAnswer Field64 i ≡ accepted → (boundIn R ≤ p64) × ((0 < boundIn R) × (R .«sq_norm_bound» < p64))
-  unfolding pineOf
-  bounds-fit e = rw (bound-is e, is) (omega (arith, bound-64 i e), (bound-positive i, norm-64 i e))

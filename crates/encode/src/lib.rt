@@ -2,28 +2,31 @@
 use pine::PineParam;
 use pine::record::Pine;
 use rules::Answer;
+use sums::Sum;
 ghost use mathlib.Core.Path.{_≡_};
 ghost use lib.ListN.{length, take};
 ghost use Rattle.rules.specs.Rules.{accepted, inOrder};
-ghost use Rattle.pine.specs.Param.{Field64};
-ghost use Rattle.flp.specs.Encode.{encodeRules, encodeOutcome, encodeOf};
+ghost use Rattle.field64.specs.Field.{p64};
+ghost use Rattle.sums.specs.Unreduced.{wordsOf};
+ghost use Rattle.doubles.specs.Doubles.{floorLimit64, power};
+ghost use Rattle.rows.specs.Rows.{Below};
+ghost use Rattle.pine.specs.Param.{Field64, paramAnswer};
+ghost use Rattle.pine.specs.Record.{pineOf};
+ghost use Rattle.flp.specs.Encode.{trueSqNorm, encodeRules, encodeOutcome, encodeOf};
+ghost use Rattle.measurement.specs.Parts.{Usable};
+ghost use Rattle.encode.specs.Late.{rowsAnswer, Rooms, lateOf};
 
-// Rules 1 to 9, 17 and 19, of encoding.
-fn check_encode(
-    param: PineParam,
+// Rules 7 to 9 and 17, with the answer on row 2, of a record that was derived.
+fn check_rows(
+    pine: Pine,
+    row_2: Answer,
     gradient: &[f64],
-    stream: &[u8],
     measurement: &[u64],
     results: &[u64],
 ) -> Answer
-    ensures { λ r. ⌜ r ≡ inOrder (take 6 (encodeRules Field64 param (now (gradient .entry)) (now (stream .entry)) (now (measurement .entry)) (now (results .entry)))) ⌝ }
+    requires { ⌜ pine .scale ≡ power (pine .«frac_bits») ⌝ }
+    ensures { λ r. ⌜ r ≡ rowsAnswer floorLimit64 pine «row_2» (now (gradient .entry)) (now (measurement .entry)) (now (results .entry)) ⌝ }
 {
-    let inputs = params::check_param(param);
-    if inputs.number != 0 {
-        return inputs;
-    }
-    let pine = Pine::new(param);
-    let row_2 = rows::check_len(2, stream.len(), pine.stream_len());
     let row_3 = rows::check_len(3, measurement.len(), pine.encoded_input_len);
     let row_4 = rows::check_len(4, results.len(), pine.num_wr_tests);
     let coordinates = gradient_rules::check_coordinates(gradient, pine.scale, pine.frac_bits);
@@ -31,24 +34,22 @@ fn check_encode(
     row_2.or(row_3.or(row_4.or(coordinates.or(gradient_len))))
 }
 
-// Encoding where these are met, with a row for the results that may be spoilt: they are known
-// before anything is written.
-fn encode_usable(
+// Encoding from rule 21 on, the results of the tests found: all is known before anything is written.
+fn finish(
     param: PineParam,
+    pine: Pine,
     gradient: &[f64],
-    stream: &[u8],
-    found: &mut [u64],
+    norm: Sum,
+    found: &[u64],
     measurement: &mut [u64],
     results: &mut [u64],
 ) -> Answer
-    requires { ⌜ inOrder (take 6 (encodeRules Field64 param (now gradient) (now stream) (now measurement) (now results))) ≡ accepted ⌝ }
-    requires { ⌜ length (now found) ≡ length (now results) ⌝ }
-    ensures { λ r. ⌜ encodeOutcome r (now (measurement .exit)) (now (results .exit)) ≡ encodeOf Field64 param (now (gradient .entry)) (now (stream .entry)) (now (measurement .entry)) (now (results .entry)) ⌝ }
+    requires { ⌜ (pine ≡ pineOf param) × (paramAnswer Field64 param ≡ accepted) ⌝ }
+    requires { ⌜ Usable floorLimit64 (param .«frac_bits») (now gradient) × (wordsOf norm ≡ trueSqNorm (param .«frac_bits») (now gradient)) ⌝ }
+    requires { ⌜ Below p64 (now found) × Rooms param (now gradient) (now found) (now measurement) (now results) ⌝ }
+    ensures { λ r. ⌜ encodeOutcome r (now (measurement .exit)) (now (results .exit)) ≡ lateOf Field64 param (now (gradient .entry)) (now (found .entry)) (now (measurement .entry)) (now (results .entry)) ⌝ }
 {
-    let pine = Pine::new(param);
     let rule = param.wr_test_rule;
-    let per = (gradient.len() + 3) / 4;
-    let norm = gradient::norm_and_tests(gradient, pine.scale, pine.frac_bits, per, stream, found);
     let v = norm.reduced();
     let late = gradient_rules::check_norm_and_tests(
         param.true_sq_norm,
@@ -68,6 +69,25 @@ fn encode_usable(
     late
 }
 
+// Encoding where the rules up to 9 are met, with a row for the results that may be spoilt.
+fn encode_usable(
+    param: PineParam,
+    pine: Pine,
+    gradient: &[f64],
+    stream: &[u8],
+    found: &mut [u64],
+    measurement: &mut [u64],
+    results: &mut [u64],
+) -> Answer
+    requires { ⌜ (pine ≡ pineOf param) × (inOrder (take 6 (encodeRules Field64 param (now gradient) (now stream) (now measurement) (now results))) ≡ accepted) ⌝ }
+    requires { ⌜ length (now found) ≡ length (now results) ⌝ }
+    ensures { λ r. ⌜ encodeOutcome r (now (measurement .exit)) (now (results .exit)) ≡ encodeOf Field64 param (now (gradient .entry)) (now (stream .entry)) (now (measurement .entry)) (now (results .entry)) ⌝ }
+{
+    let per = (gradient.len() + 3) / 4;
+    let norm = gradient::norm_and_tests(gradient, pine.scale, pine.frac_bits, per, stream, found);
+    finish(param, pine, gradient, norm, found, measurement, results)
+}
+
 // Encodes a gradient, with the lent stream for the wraparound tests: the measurement goes to one row
 // and the tests' results to another.
 pub fn encode_with_wr_joint_rand(
@@ -79,7 +99,13 @@ pub fn encode_with_wr_joint_rand(
 ) -> Answer
     ensures { λ r. ⌜ encodeOutcome r (now (measurement .exit)) (now (results .exit)) ≡ encodeOf Field64 param (now (gradient .entry)) (now (stream .entry)) (now (measurement .entry)) (now (results .entry)) ⌝ }
 {
-    let early = check_encode(param, gradient, stream, measurement, results);
+    let inputs = params::check_param(param);
+    if inputs.number != 0 {
+        return inputs;
+    }
+    let pine = Pine::new(param);
+    let row_2 = rows::check_len(2, stream.len(), pine.stream_len());
+    let early = check_rows(pine, row_2, gradient, measurement, results);
     if early.number != 0 {
         return early;
     }
@@ -89,6 +115,7 @@ pub fn encode_with_wr_joint_rand(
         let mut found = [0u64; 8];
         return encode_usable(
             param,
+            pine,
             gradient,
             stream,
             &mut found[..tests],
@@ -99,6 +126,7 @@ pub fn encode_with_wr_joint_rand(
     let mut found = [0u64; 256];
     encode_usable(
         param,
+        pine,
         gradient,
         stream,
         &mut found[..tests],

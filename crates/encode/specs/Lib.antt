@@ -1,0 +1,2 @@
+-- Encoding in two steps.
+pub mod Late
