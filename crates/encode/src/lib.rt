@@ -4,15 +4,16 @@ use pine::record::Pine;
 use rules::Answer;
 use sums::Sum;
 ghost use mathlib.Core.Path.{_≡_};
-ghost use lib.ListN.{length, take};
-ghost use Rattle.rules.specs.Rules.{accepted, inOrder};
+ghost use Prim.Native.Nat.{min};
+ghost use lib.ListN.{length};
+ghost use Rattle.rules.specs.Rules.{accepted};
 ghost use Rattle.field64.specs.Field.{p64};
 ghost use Rattle.sums.specs.Unreduced.{wordsOf};
 ghost use Rattle.doubles.specs.Doubles.{floorLimit64, power};
 ghost use Rattle.rows.specs.Rows.{Below};
 ghost use Rattle.pine.specs.Param.{Field64, paramAnswer};
 ghost use Rattle.pine.specs.Record.{pineOf};
-ghost use Rattle.flp.specs.Encode.{trueSqNorm, encodeRules, encodeOutcome, encodeOf};
+ghost use Rattle.flp.specs.Encode.{trueSqNorm, encodeOutcome, encodeOf};
 ghost use Rattle.measurement.specs.Parts.{Usable};
 ghost use Rattle.encode.specs.Late.{rowsAnswer, Rooms, lateOf};
 
@@ -69,34 +70,16 @@ fn finish(
     late
 }
 
-// Encoding where the rules up to 9 are met, with a row for the results that may be spoilt.
-fn encode_usable(
+// Encoding with a row for the results that may be spoilt, as long as theirs or of 256.
+fn encode_in(
     param: PineParam,
-    pine: Pine,
     gradient: &[f64],
     stream: &[u8],
     found: &mut [u64],
     measurement: &mut [u64],
     results: &mut [u64],
 ) -> Answer
-    requires { ⌜ (pine ≡ pineOf param) × (inOrder (take 6 (encodeRules Field64 param (now gradient) (now stream) (now measurement) (now results))) ≡ accepted) ⌝ }
-    requires { ⌜ length (now found) ≡ length (now results) ⌝ }
-    ensures { λ r. ⌜ encodeOutcome r (now (measurement .exit)) (now (results .exit)) ≡ encodeOf Field64 param (now (gradient .entry)) (now (stream .entry)) (now (measurement .entry)) (now (results .entry)) ⌝ }
-{
-    let per = (gradient.len() + 3) / 4;
-    let norm = gradient::norm_and_tests(gradient, pine.scale, pine.frac_bits, per, stream, found);
-    finish(param, pine, gradient, norm, found, measurement, results)
-}
-
-// Encodes a gradient, with the lent stream for the wraparound tests: the measurement goes to one row
-// and the tests' results to another.
-pub fn encode_with_wr_joint_rand(
-    param: PineParam,
-    gradient: &[f64],
-    stream: &[u8],
-    measurement: &mut [u64],
-    results: &mut [u64],
-) -> Answer
+    requires { ⌜ length (now found) ≡ min (length (now results)) 256 ⌝ }
     ensures { λ r. ⌜ encodeOutcome r (now (measurement .exit)) (now (results .exit)) ≡ encodeOf Field64 param (now (gradient .entry)) (now (stream .entry)) (now (measurement .entry)) (now (results .entry)) ⌝ }
 {
     let inputs = params::check_param(param);
@@ -109,13 +92,39 @@ pub fn encode_with_wr_joint_rand(
     if early.number != 0 {
         return early;
     }
+    let per = (gradient.len() + 3) / 4;
+    let norm = gradient::norm_and_tests(gradient, pine.scale, pine.frac_bits, per, stream, found);
+    finish(param, pine, gradient, norm, found, measurement, results)
+}
+
+// Encodes a gradient, with the lent stream for the wraparound tests: the measurement goes to one row
+// and the tests' results to another. A short gradient costs little more than the row that has to be
+// set to 0 for it.
+pub fn encode_with_wr_joint_rand(
+    param: PineParam,
+    gradient: &[f64],
+    stream: &[u8],
+    measurement: &mut [u64],
+    results: &mut [u64],
+) -> Answer
+    ensures { λ r. ⌜ encodeOutcome r (now (measurement .exit)) (now (results .exit)) ≡ encodeOf Field64 param (now (gradient .entry)) (now (stream .entry)) (now (measurement .entry)) (now (results .entry)) ⌝ }
+{
     let tests = results.len();
-    // A short gradient costs little more than the row that has to be set to 0 for it.
     if tests <= 8 {
         let mut found = [0u64; 8];
-        return encode_usable(
+        return encode_in(
             param,
-            pine,
+            gradient,
+            stream,
+            &mut found[..tests],
+            measurement,
+            results,
+        );
+    }
+    if tests <= 32 {
+        let mut found = [0u64; 32];
+        return encode_in(
+            param,
             gradient,
             stream,
             &mut found[..tests],
@@ -124,12 +133,12 @@ pub fn encode_with_wr_joint_rand(
         );
     }
     let mut found = [0u64; 256];
-    encode_usable(
+    let count = columns::at_most(tests, 256);
+    encode_in(
         param,
-        pine,
         gradient,
         stream,
-        &mut found[..tests],
+        &mut found[..count],
         measurement,
         results,
     )
