@@ -12,9 +12,10 @@ ghost use Rattle.sums.specs.Unreduced.{wordsOf};
 ghost use Rattle.doubles.specs.Doubles.{floorLimit64, power};
 ghost use Rattle.rows.specs.Rows.{Below};
 ghost use Rattle.pine.specs.Param.{Field64, paramAnswer};
-ghost use Rattle.pine.specs.Record.{pineOf};
+ghost use Rattle.pine.specs.Record.{streamLen, pineOf};
 ghost use Rattle.flp.specs.Encode.{trueSqNorm, encodeOutcome, encodeOf};
 ghost use Rattle.measurement.specs.Parts.{Usable};
+ghost use Rattle.wr_joint_rand.specs.WrJointRand.{wrStream, streamFrom};
 ghost use Rattle.encode.specs.Late.{rowsAnswer, Rooms, lateOf};
 
 // Rules 7 to 9 and 17, with the answer on row 2, of a record that was derived.
@@ -70,44 +71,54 @@ fn finish(
     late
 }
 
-// Encoding with a row for the results that may be spoilt, as long as theirs or of 256.
+// Encoding with a row for the results that may be spoilt, as long as theirs or of 256. The tests' bytes are row 2, or come of
+// the seed that it has.
 fn encode_in(
     param: PineParam,
     gradient: &[f64],
-    stream: &[u8],
+    seeded: bool,
+    row: &[u8],
     found: &mut [u64],
     measurement: &mut [u64],
     results: &mut [u64],
 ) -> Answer
     requires { ⌜ length (now found) ≡ min (length (now results)) 256 ⌝ }
-    ensures { λ r. ⌜ encodeOutcome r (now (measurement .exit)) (now (results .exit)) ≡ encodeOf Field64 param (now (gradient .entry)) (now (stream .entry)) (now (measurement .entry)) (now (results .entry)) ⌝ }
+    ensures { λ r. ⌜ encodeOutcome r (now (measurement .exit)) (now (results .exit)) ≡ encodeOf Field64 param (now (gradient .entry)) (streamFrom seeded (streamLen (param .«num_wr_tests») (param .dimension)) (now (row .entry))) (now (measurement .entry)) (now (results .entry)) ⌝ }
 {
     let inputs = params::check_param(param);
     if inputs.number != 0 {
         return inputs;
     }
     let pine = Pine::new(param);
-    let row_2 = rows::check_len(2, stream.len(), pine.stream_len());
+    let row_2 = wr_joint_rand::check_row(seeded, row, pine.stream_len());
     let early = check_rows(pine, row_2, gradient, measurement, results);
     if early.number != 0 {
         return early;
     }
     let per = (gradient.len() + 3) / 4;
-    let norm = gradient::norm_and_tests(gradient, pine.scale, pine.frac_bits, per, stream, found);
+    let norm = wr_joint_rand::norm_and_tests(
+        gradient,
+        pine.scale,
+        pine.frac_bits,
+        per,
+        seeded,
+        row,
+        found,
+    );
     finish(param, pine, gradient, norm, found, measurement, results)
 }
 
-// Encodes a gradient, with the lent stream for the wraparound tests: the measurement goes to one row
-// and the tests' results to another. A short gradient costs little more than the row that has to be
-// set to 0 for it.
-pub fn encode_with_wr_joint_rand(
+// Encoding with a row of its own for the results. A short gradient costs little more than the row that has to be set to 0
+// for it.
+fn encode(
     param: PineParam,
     gradient: &[f64],
-    stream: &[u8],
+    seeded: bool,
+    row: &[u8],
     measurement: &mut [u64],
     results: &mut [u64],
 ) -> Answer
-    ensures { λ r. ⌜ encodeOutcome r (now (measurement .exit)) (now (results .exit)) ≡ encodeOf Field64 param (now (gradient .entry)) (now (stream .entry)) (now (measurement .entry)) (now (results .entry)) ⌝ }
+    ensures { λ r. ⌜ encodeOutcome r (now (measurement .exit)) (now (results .exit)) ≡ encodeOf Field64 param (now (gradient .entry)) (streamFrom seeded (streamLen (param .«num_wr_tests») (param .dimension)) (now (row .entry))) (now (measurement .entry)) (now (results .entry)) ⌝ }
 {
     let tests = results.len();
     if tests <= 8 {
@@ -115,7 +126,8 @@ pub fn encode_with_wr_joint_rand(
         return encode_in(
             param,
             gradient,
-            stream,
+            seeded,
+            row,
             &mut found[..tests],
             measurement,
             results,
@@ -126,7 +138,8 @@ pub fn encode_with_wr_joint_rand(
         return encode_in(
             param,
             gradient,
-            stream,
+            seeded,
+            row,
             &mut found[..tests],
             measurement,
             results,
@@ -137,9 +150,37 @@ pub fn encode_with_wr_joint_rand(
     encode_in(
         param,
         gradient,
-        stream,
+        seeded,
+        row,
         &mut found[..count],
         measurement,
         results,
     )
+}
+
+// Encodes a gradient, with the lent stream for the wraparound tests: the measurement goes to one row
+// and the tests' results to another.
+pub fn encode_with_wr_joint_rand(
+    param: PineParam,
+    gradient: &[f64],
+    stream: &[u8],
+    measurement: &mut [u64],
+    results: &mut [u64],
+) -> Answer
+    ensures { λ r. ⌜ encodeOutcome r (now (measurement .exit)) (now (results .exit)) ≡ encodeOf Field64 param (now (gradient .entry)) (now (stream .entry)) (now (measurement .entry)) (now (results .entry)) ⌝ }
+{
+    encode(param, gradient, false, stream, measurement, results)
+}
+
+// The same, with the stream that a seed of 16 bytes makes.
+pub fn encode_with_wr_joint_rand_seed(
+    param: PineParam,
+    gradient: &[f64],
+    seed: &[u8],
+    measurement: &mut [u64],
+    results: &mut [u64],
+) -> Answer
+    ensures { λ r. ⌜ encodeOutcome r (now (measurement .exit)) (now (results .exit)) ≡ encodeOf Field64 param (now (gradient .entry)) (wrStream (streamLen (param .«num_wr_tests») (param .dimension)) (now (seed .entry))) (now (measurement .entry)) (now (results .entry)) ⌝ }
+{
+    encode(param, gradient, true, seed, measurement, results)
 }

@@ -1,0 +1,2 @@
+-- The bytes of the wraparound tests.
+pub mod WrJointRand
