@@ -148,7 +148,8 @@ module _ (F : Field) (i : PineParam) (g : List Float) (s m r : List ℕ) where
       pub results-long : length r ≡ i .«num_wr_tests»
       pub usable : Usable (F .floorLimit) (i .«frac_bits») g
       pub gradient-long : length g ≡ i .dimension
-      pub small : (i .dimension ≤ 65536) × (i .«num_wr_tests» ≤ 256)
+      pub dimension : (0 < i .dimension) × (i .dimension ≤ 65536)
+      pub tests : (0 < i .«num_wr_tests») × (i .«num_wr_tests» ≤ 256)
 
     pub ready : Ready
     unfolding encodeRules
@@ -162,18 +163,29 @@ module _ (F : Field) (i : PineParam) (g : List Float) (s m r : List ℕ) where
           results-long = row-right 4 _ _ (h .1 .1 .1 .0);
           usable = all-usable (F .floorLimit) (i .«frac_bits») 0 g (h .1 .1 .1 .1 .0);
           gradient-long = eqb-true _ _ (so _ 8 0 (h .1 .1 .1 .1 .1 .0));
-          small = (l .dimension .1, l .tests .1);
+          dimension = l .dimension;
+          tests = l .tests;
         }
 
     pub few : length r ≤ 256
-    few = omega (arith, ready .results-long, ready .small .1)
+    few = omega (arith, ready .results-long, ready .tests)
 
-    -- with a row of n results: the tests have room
+    -- with a row of n results: the tests have room, and take the whole stream
     module _ (n : ℕ) (l : n ≡ length r) where
-      pub room : (n * ((length g + 3) / 4) ≤ length s) × ((length g ≤ 4 * ((length g + 3) / 4)) × ((length g + 3) / 4 < 65536))
+      pub record Room : Type 0 where
+        pub whole : n * ((length g + 3) / 4) ≡ streamLen (i .«num_wr_tests») (i .dimension)
+        pub tests : (0 < n) × (n ≤ 256)
+        pub per : ((0 < (length g + 3) / 4) × ((length g + 3) / 4 ≤ 16384)) × (length g ≤ 4 * ((length g + 3) / 4))
+
+      pub room : Room
       room =
-          let f : length s ≡ n * ((length g + 3) / 4) = ready .stream-long ∙ (λ j. sym (l ∙ ready .results-long) j * bytesPerTest (sym (ready .gradient-long) j)) in
-          (le-of-eq (sym f), (omega arith, omega (arith, ready .gradient-long, ready .small .0)))
+          let e = l ∙ ready .results-long in
+          let d = ready .gradient-long in
+          record {
+            whole = λ j. e j * bytesPerTest (d j);
+            tests = (omega (arith, e, ready .tests), omega (arith, e, ready .tests));
+            per = ((omega (arith, d, ready .dimension), omega (arith, d, ready .dimension)), omega arith);
+          }
 
     pub rooms : (found : List ℕ) → length found ≡ length r → Rooms i g found m r
     rooms found l = (ready .gradient-long, (l ∙ ready .results-long, (ready .measurement-long, ready .results-long)))

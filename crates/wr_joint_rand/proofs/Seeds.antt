@@ -7,6 +7,12 @@ use native.Mathlib.Omega.{arith}
 use lib.ListN.{length}
 use lib.Dec.{eqb}
 use borrow.Author.Tests.{eq-eqb, ne-eqb, eqb-true, eqb-false}
+use Rattle.rules.specs.declared.Answer.{Answer}
+use Rattle.rules.specs.Rules.{accepted}
+use Rattle.pine.specs.declared.PineParam.{PineParam}
+use Rattle.pine.specs.Param.{Field, paramAnswer}
+use Rattle.pine.specs.Record.{bytesPerTest, streamLen}
+use Rattle.pine.proofs.Limits.{limits}
 use Rattle.rows.specs.Rows.{rowRule}
 use Rattle.turboshake.specs.declared.Sponge.{Sponge}
 use Rattle.turboshake.specs.TurboShake.{Bytes}
@@ -14,6 +20,7 @@ use Rattle.turboshake.specs.Stream.{drawn, streamOf}
 use Rattle.turboshake.proofs.Drawn.{length-drawn}
 use Rattle.xof.specs.Xof.{algorithmId, dst, beforeBinder, xofTurboShake128}
 use Rattle.xof.proofs.Frame.{drawn-is}
+use Rattle.wr_joint_rand.proofs.Blocks.{some-bytes}
 use Rattle.wr_joint_rand.specs.WrJointRand.{wrStream, streamFrom}
 
 -- what is drawn is the stream of the seed
@@ -49,6 +56,12 @@ rule-is n row h f = go (eqb (length row) 16) refl
         let l = eqb-true (length row) 16 e in
         rw (eq-eqb (length row) 16 l, eq-eqb (length (wrStream n row)) n (stream-long n row l f)) refl
     go false e = rw (e, ne-eqb (length (wrStream n row)) n (λ z. omega (arith, z, no-stream n row e, h))) refl
+
+-- accepted inputs ask for some bytes
+pub stream-some : (F : Field) (i : PineParam) → paramAnswer F i ≡ accepted → 0 < streamLen (i .«num_wr_tests») (i .dimension)
+stream-some F i e =
+    let l = limits F i (ap (λ (a : Answer). a .number) e) in
+    some-bytes (i .«num_wr_tests») (bytesPerTest (i .dimension)) (l .tests .0) (omega (arith, l .dimension .0))
 
 -- ---- a row that is the stream, and one that has a seed
 

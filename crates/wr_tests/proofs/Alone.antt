@@ -43,7 +43,8 @@ module _ (F : Field) (i : PineParam) (xs s d : List ℕ) where
 
     module _ (z : a .number ≡ 0) where
       pub record Met : Type 0 where
-        pub small : i .dimension ≤ 65536
+        pub dimension : (0 < i .dimension) × (i .dimension ≤ 65536)
+        pub tests : (0 < i .«num_wr_tests») × (i .«num_wr_tests» ≤ 256)
         pub row-1 : length xs ≡ i .dimension
         pub row-2 : length s ≡ streamLen (i .«num_wr_tests») (i .dimension)
         pub row-3 : length d ≡ i .«num_wr_tests»
@@ -53,13 +54,20 @@ module _ (F : Field) (i : PineParam) (xs s d : List ℕ) where
       unfolding runTestsRules
       met =
           let h = passed (runTestsRules F i xs s d) (ap (λ (b : Answer). b .number) (sym e) ∙ z) in
-          record { small = limits F i (h .0) .dimension .1; row-1 = row-right 1 _ _ (h .1 .0); row-2 = row-right 2 _ _ (h .1 .1 .0); row-3 = row-right 3 _ _ (h .1 .1 .1 .0); below = elements-below (F .p) 0 xs (h .1 .1 .1 .1 .0) }
+          record { dimension = limits F i (h .0) .dimension; tests = limits F i (h .0) .tests; row-1 = row-right 1 _ _ (h .1 .0); row-2 = row-right 2 _ _ (h .1 .1 .0); row-3 = row-right 3 _ _ (h .1 .1 .1 .0); below = elements-below (F .p) 0 xs (h .1 .1 .1 .1 .0) }
 
-      -- the rows have room for a block of all the tests
-      pub room : (length d * ((length xs + 3) / 4) ≤ length s) × ((length xs ≤ 4 * ((length xs + 3) / 4)) × ((length xs + 3) / 4 < 65536))
-      room =
-          let f : length s ≡ length d * ((length xs + 3) / 4) = met .row-2 ∙ (λ j. sym (met .row-3) j * bytesPerTest (sym (met .row-1) j)) in
-          (le-of-eq (sym f), (omega arith, omega (arith, met .row-1, met .small)))
+      -- the tests have room, and take the whole stream
+      pub record Room : Type 0 where
+        pub whole : length d * ((length xs + 3) / 4) ≡ streamLen (i .«num_wr_tests») (i .dimension)
+        pub tests : (0 < length d) × (length d ≤ 256)
+        pub per : ((0 < (length xs + 3) / 4) × ((length xs + 3) / 4 ≤ 16384)) × (length xs ≤ 4 * ((length xs + 3) / 4))
+
+      pub room : Room
+      room = record {
+        whole = λ j. met .row-3 j * bytesPerTest (met .row-1 j);
+        tests = (omega (arith, met .row-3, met .tests), omega (arith, met .row-3, met .tests));
+        per = ((omega (arith, met .row-1, met .dimension), omega (arith, met .row-1, met .dimension)), omega arith);
+      }
 
       pub done : (r : List ℕ) → r ≡ testsOf (F .p) ((length xs + 3) / 4) (length d) s xs → outcome a r ≡ runTestsOf F i xs s d
       unfolding runTestsOf
