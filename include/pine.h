@@ -1,8 +1,9 @@
 /* PINE reports over Field64: the proved calls of libpine_c.a, for C11 and C++11 or later, on x86-64.
  *
- * What it is not: a whole VDAF. There is no FLP proof, query or prepare, so two servers that hold only shares
- * cannot check a report with this alone; all randomness is the caller's, time is not constant, and nothing is
- * said of privacy. README.md, "What it is not", has each of these, and what the randomness must be.
+ * What it is not: a whole VDAF (verifiable distributed aggregation function). There is no FLP proof (fully linear
+ * proof), query or prepare, so two servers that hold only shares cannot check a report with this alone; all
+ * randomness is the caller's, time is not constant, and nothing is said of privacy. README.md, "What it is not",
+ * has each of these, and what the randomness must be; "A report, step by step" says what the words here mean.
  *
  * Each call is the function of the same name in the Rattle crates doubles, params, wr_tests, encode,
  * validity and vdaf, or locate_gradient and so on in parts, with the same contract: for ANY numbers and any

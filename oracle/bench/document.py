@@ -204,8 +204,6 @@ def document(rows, processor, picture):
         slower(calls + leaves, "by hand", lambda r: r.by_hand, lambda r: r.to_by_hand),
         "## Slower than the original",
         slower(calls + leaves, "the original", lambda r: r.original, lambda r: r.to_original),
-        "## On another processor",
-        written("On another processor"),
     ]
     return "\n\n".join(parts) + "\n"
 

@@ -114,7 +114,7 @@ fn same_as_fresh(
     let mut left_share_2 = [0u64; 100];
     let mut right_share_2 = [0u64; 100];
     let mut full_2 = [0u64; 100];
-    report::make(
+    let made = report::make(
         report::param(),
         key,
         &mut measurement_2,
@@ -123,6 +123,9 @@ fn same_as_fresh(
         &mut right_share_2,
         &mut full_2,
     );
+    if made.number != 0 {
+        return false;
+    }
     row::same(measurement, &measurement_2)
         & row::same(results, &results_2)
         & row::same(left_share, &left_share_2)
@@ -254,7 +257,7 @@ pub fn withdrawn(left: &mut [u64], right: &mut [u64], key: usize) -> Answer
     let mut results = [0u64; 4];
     let mut left_share = [0u64; 96];
     let mut right_share = [0u64; 96];
-    report::client(
+    let made = report::client(
         report::param(),
         key,
         &mut measurement,
@@ -262,6 +265,9 @@ pub fn withdrawn(left: &mut [u64], right: &mut [u64], key: usize) -> Answer
         &mut left_share,
         &mut right_share,
     );
+    if made.number != 0 {
+        return made;
+    }
     let from_left = filing::withdraw(left, key, &left_share);
     let from_right = filing::withdraw(right, key, &right_share);
     from_left.or(from_right)

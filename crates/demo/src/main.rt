@@ -1,5 +1,5 @@
-// A day on the farm, as a tutorial of the library: two controllers with twelve valves each, a report
-// of each valve, two servers. report.rt, filing.rt, trial.rt and probe.rt have the steps, numbered 1 to 11.
+// A day on the farm, a tutorial of the calls that take a report from its gradient to the sums: two controllers
+// with twelve valves each, a report of each valve, two servers. report.rt, filing.rt, trial.rt and probe.rt have the steps, numbered 1 to 11.
 mod day;
 mod filing;
 mod made_up;

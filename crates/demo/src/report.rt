@@ -1,5 +1,5 @@
-// A report, from the client's gradient to the two servers' shares. The rows are lent: what they held
-// before does not matter.
+// A report, from the client's gradient to the two servers' shares. The rows are lent, that is the caller's:
+// what they held before does not matter.
 use crate::made_up;
 use crate::row;
 use pine::PineParam;
@@ -89,7 +89,9 @@ pub fn test(param: PineParam, key: usize, share: &mut [u64]) -> Answer {
     let mut results = [0u64; 4];
     made_up::stream(key, &mut stream);
     let answer = wr_tests::run_wr_tests(param, &share[0..DIMENSION], &stream, &mut results);
-    row::copy(&results, &mut share[encoded_len..]);
+    if answer.number == 0 {
+        row::copy(&results, &mut share[encoded_len..]);
+    }
     answer
 }
 
@@ -114,7 +116,7 @@ pub fn has_parts(param: PineParam, full: &[u64], results: &[u64]) -> bool {
     number == 0 && row::are_bits(checked) && row::same(added, results)
 }
 
-// What the client does: steps 1 and 2.
+// What the client does: steps 1 and 2. Where encoding is refused there is no measurement, and nothing is cut.
 pub fn client(
     param: PineParam,
     key: usize,
@@ -124,7 +126,9 @@ pub fn client(
     right: &mut [u64],
 ) -> Answer {
     let encoded = encode(param, key, measurement, results);
-    cut(key, measurement, left, right);
+    if encoded.number == 0 {
+        cut(key, measurement, left, right);
+    }
     encoded
 }
 
@@ -135,7 +139,7 @@ fn servers(param: PineParam, key: usize, left: &mut [u64], right: &mut [u64]) ->
     left_tested.or(right_tested)
 }
 
-// The report of a key, and the sum of its two full shares.
+// The report of a key, and the sum of its two full shares: the first step that is refused is the last.
 pub fn make(
     param: PineParam,
     key: usize,
@@ -146,7 +150,12 @@ pub fn make(
     full: &mut [u64],
 ) -> Answer {
     let encoded = client(param, key, measurement, results, left, right);
+    if encoded.number != 0 {
+        return encoded;
+    }
     let tested = servers(param, key, left, right);
-    row::add(left, right, full);
-    encoded.or(tested)
+    if tested.number == 0 {
+        row::add(left, right, full);
+    }
+    tested
 }

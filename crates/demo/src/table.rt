@@ -102,7 +102,9 @@ pub fn nothing_left(left: &[u64], right: &[u64], key: usize)
 }
 
 pub fn print(left: &[u64], right: &[u64]) {
-    print::text(b"     controller 1                 controller 2\n");
+    print::text(
+        b"coordinate 0 of each sum, and whether all 4 are equal\n     controller 1                 controller 2\n",
+    );
     print::text(b"valve  decoded       true           decoded       true\n");
     let mut i = 0;
     while i < filing::VALVES {
