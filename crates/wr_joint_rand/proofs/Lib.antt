@@ -1,3 +1,4 @@
--- What the proofs of the functions cite: `Blocks` of tests taken some at a time, `Seeds` of the stream that a seed makes.
+-- What the proofs of the functions cite: `Blocks` of tests taken some at a time, `Seeds` of the stream that a seed makes. `Examples` are computed.
 pub mod Blocks
 pub mod Seeds
+mod Examples
