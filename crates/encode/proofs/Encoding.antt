@@ -3,7 +3,6 @@ use mathlib.Core.Path.{_≡_, refl, sym, ap, _∙_}
 use mathlib.Core.Bool.{Bool, true, false, cond}
 use mathlib.Core.List.{List, [], _∷_, _++_}
 use Prim.Native.Nat.{ℕ, suc, _+_, _*_, _/_, _%_, _≤_, _<_}
-use native.Mathlib.Nat.{le-of-eq}
 use native.Mathlib.Omega.{arith}
 use lib.ListN.{length, take, drop, replicate, length-replicate}
 use lib.Seq.{length-take-le}
@@ -19,13 +18,13 @@ use Rattle.pine.specs.declared.WrTestRule.{WrTestRule}
 use Rattle.pine.specs.declared.WrTestRule.the-variants.{Every, Enough}
 use Rattle.pine.specs.declared.record.Pine.{Pine}
 use Rattle.pine.specs.Param.{Field, Field64, paramAnswer}
-use Rattle.pine.specs.Record.{sqNormBound, sqNormBits, wrTestBound, wrTestBits, bitCheckedLen, encodedInputLen, bytesPerTest, streamLen, pineOf, boundIn}
+use Rattle.pine.specs.Record.{sqNormBits, wrTestBound, wrTestBits, bitCheckedLen, encodedInputLen, bytesPerTest, streamLen, pineOf, boundIn}
 use Rattle.rows.specs.Rows.{rowRule}
 use Rattle.pine.proofs.Limits.{limits, param-accepted}
 use Rattle.pine.proofs.Sizes.{bound-64, norm-64, bound-positive, recovered-64}
 use Rattle.rows.proofs.Lengths.{row-right}
 use Rattle.flp.specs.Tests.{testsOf}
-use Rattle.flp.specs.Encode.{elements, sqNorm, resultsOf, measurementOf, coordinatesRule, gradientLenRule, trueSqNorm, trueSqNormRule, sqNormRule, inRange, countInRange, everyRule, enoughRule, rangeRule, encodeOutcome, encodeRules, encodeAnswer, encodeOf}
+use Rattle.flp.specs.Encode.{elements, sqNorm, resultsOf, measurementOf, gradientLenRule, trueSqNorm, trueSqNormRule, sqNormRule, inRange, countInRange, everyRule, enoughRule, rangeRule, encodeOutcome, encodeRules, encodeAnswer, encodeOf}
 use Rattle.flp.proofs.TrueNorm.{norm-mod}
 use Rattle.measurement.specs.Parts.{Usable, checkedOf}
 use Rattle.gradient_rules.proofs.Searches.{all-usable}

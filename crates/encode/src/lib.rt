@@ -146,7 +146,7 @@ fn encode(
         );
     }
     let mut found = [0u64; 256];
-    let count = columns::at_most(tests, 256);
+    let count = groups::at_most(tests, 256);
     encode_in(
         param,
         gradient,

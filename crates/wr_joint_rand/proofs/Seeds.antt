@@ -1,12 +1,12 @@
 -- The stream that a seed makes. Assumes nothing.
 use mathlib.Core.Path.{_≡_, refl, sym, ap, _∙_}
 use mathlib.Core.Bool.{Bool, true, false}
-use mathlib.Core.List.{List, [], _++_, append-nil}
+use mathlib.Core.List.{List, [], append-nil}
 use Prim.Native.Nat.{ℕ, _≤_, _<_}
 use native.Mathlib.Omega.{arith}
 use lib.ListN.{length}
 use lib.Dec.{eqb}
-use borrow.Author.Tests.{eq-eqb, ne-eqb, eqb-true, eqb-false}
+use borrow.Author.Tests.{eq-eqb, ne-eqb, eqb-true}
 use Rattle.rules.specs.declared.Answer.{Answer}
 use Rattle.rules.specs.Rules.{accepted}
 use Rattle.pine.specs.declared.PineParam.{PineParam}
@@ -18,7 +18,7 @@ use Rattle.turboshake.specs.declared.Sponge.{Sponge}
 use Rattle.turboshake.specs.TurboShake.{Bytes}
 use Rattle.turboshake.specs.Stream.{drawn, streamOf}
 use Rattle.turboshake.proofs.Drawn.{length-drawn}
-use Rattle.xof.specs.Xof.{algorithmId, dst, beforeBinder, xofTurboShake128}
+use Rattle.xof.specs.Xof.{algorithmId, dst, beforeBinder}
 use Rattle.xof.proofs.Frame.{drawn-is}
 use Rattle.wr_joint_rand.proofs.Blocks.{some-bytes}
 use Rattle.wr_joint_rand.specs.WrJointRand.{wrStream, streamFrom}

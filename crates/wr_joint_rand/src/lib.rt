@@ -57,7 +57,7 @@ fn run_blocks(gradient: &[u64], per: usize, stream: Sponge, buffer: &mut [u8], r
     let mut state = stream;
     let mut t = 0;
     while t < results.len() {
-        let end = columns::at_most(t + most, results.len());
+        let end = groups::at_most(t + most, results.len());
         state = draw(state, (end - t) * per, buffer);
         columns::run_block(gradient, per, buffer, &mut results[t..end]);
         t = end;
@@ -111,12 +111,12 @@ fn norm_and_blocks(
     ensures { λ _. ⌜ now (results .exit) ≡ testsOf p64 per (length (now (results .entry))) (drawn (length (now (results .entry)) * per) stream) (elements p64 «frac_bits» (now (gradient .entry))) ⌝ }
 {
     let most = buffer.len() / per;
-    let mut state = stream;
+    let mut rest = stream;
     let mut norm = Sum::none();
     let mut t = 0;
     while t < results.len() {
-        let end = columns::at_most(t + most, results.len());
-        state = draw(state, (end - t) * per, buffer);
+        let end = groups::at_most(t + most, results.len());
+        rest = draw(rest, (end - t) * per, buffer);
         norm = gradient::norm_and_tests(
             gradient,
             scale,

@@ -4,7 +4,7 @@ use native.Mathlib.Nat.{sub-zero}
 use native.Mathlib.Omega.{arith}
 use lib.ListN.{length}
 use lib.Seq.{length-take-le}
-use Rattle.columns.proofs.Swapped.{room-few, room-many}
+use Rattle.groups.proofs.Swapped.{room-few, room-many}
 use borrow.Author.Needs.{needs}
 use Rattle.columns.proofs.add_group.Statement.{statement}
 use Rattle.columns.proofs.add_group.Tie as tie

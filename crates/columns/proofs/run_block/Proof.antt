@@ -1,7 +1,7 @@
 -- `columns::run_block` meets its contract. Assumes nothing.
 use native.Mathlib.Omega.{arith}
 use lib.ListN.{length}
-use Rattle.columns.proofs.Swapped.{room-few, room-many}
+use Rattle.groups.proofs.Swapped.{room-few, room-many}
 use borrow.Author.Needs.{needs}
 use Rattle.columns.proofs.run_block.Statement.{statement}
 use Rattle.columns.proofs.run_block.Tie as tie

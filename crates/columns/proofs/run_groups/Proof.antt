@@ -8,7 +8,7 @@ use lib.Dec.{lit<}
 use Rattle.field64.specs.Field.{p64}
 use Rattle.rows.proofs.Elements.{below-take, below-drop}
 use Rattle.flp.specs.Tests.{testsOf}
-use Rattle.columns.proofs.Swapped.{Fits, group-fits, group-cut, part-long, room-less, groups-start, groups-below, groups-next, groups-end, same-room}
+use Rattle.groups.proofs.Swapped.{Fits, group-fits, group-cut, part-long, room-less, groups-start, groups-below, groups-next, groups-end, same-room}
 use Rattle.columns.proofs.run_groups.Statement.{statement}
 use Rattle.columns.proofs.run_groups.Tie as tie
 

@@ -5,7 +5,6 @@ use native.Mathlib.Nat.{mod-lt}
 use mathlib.Core.Path.{sym, subst, _∙_}
 use Prim.Native.Nat.{ℕ}
 use lib.Dec.{lit<}
-use Rattle.field64.specs.Field.{p64}
 use Rattle.sums.specs.Unreduced.{wordsOf}
 use Rattle.doubles.specs.Doubles.{floorLimit64}
 use Rattle.pine.specs.Param.{Field64}

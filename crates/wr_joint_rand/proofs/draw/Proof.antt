@@ -1,11 +1,8 @@
 -- `wr_joint_rand::draw` meets its contract. Assumes nothing.
 use borrow.Author.Needs.{needs}
 use mathlib.Core.Path.{sym, ap, _∙_}
-use native.Mathlib.Omega.{arith}
-use lib.ListN.{take, length}
-use lib.Seq.{length-take-le, take-append-seam}
-use Rattle.turboshake.specs.Stream.{drawn, after}
-use Rattle.turboshake.proofs.Drawn.{length-drawn}
+use lib.Seq.{length-take-le}
+use Rattle.turboshake.specs.Stream.{after}
 use Rattle.wr_joint_rand.proofs.Blocks.{drawn-front}
 use Rattle.wr_joint_rand.proofs.draw.Statement.{statement}
 use Rattle.wr_joint_rand.proofs.draw.Tie as tie

@@ -6,7 +6,7 @@ use lib.ListN.{length}
 use Rattle.field64.specs.Field.{p64}
 use Rattle.turboshake.specs.Stream.{drawn, after}
 use native.Mathlib.Nat.{div-le-self}
-use Rattle.columns.proofs.Swapped.{part-long}
+use Rattle.groups.proofs.Swapped.{part-long}
 use borrow.Rule.Slice.PartMut.{same-len-mid}
 use Rattle.wr_joint_rand.proofs.Blocks.{Done, none, next, all, start-is, after-more, Block, block, fewer}
 use Rattle.sums.specs.Unreduced.{wordsOf}
@@ -15,11 +15,11 @@ use Rattle.wr_joint_rand.proofs.norm_and_blocks.Statement.{statement}
 use Rattle.wr_joint_rand.proofs.norm_and_blocks.Tie as tie
 
 abbrev Inv-loop : tie.InvT-loop
-Inv-loop gradient scale frac-bits per buffer₀ results₀ most state₀ norm₀ t₀ buffer results state norm t =
-    (t ≤ length results₀) × (length buffer ≡ length buffer₀) × (length results ≡ length results₀) × (state .at < 168) × (state ≡ after (t * per) state₀) × Done p64 per (elements p64 frac-bits gradient) state₀ t results × (0 < t → wordsOf norm ≡ trueSqNorm frac-bits gradient)
+Inv-loop gradient scale frac-bits per buffer₀ results₀ most rest₀ norm₀ t₀ buffer results rest norm t =
+    (t ≤ length results₀) × (length buffer ≡ length buffer₀) × (length results ≡ length results₀) × (rest .at < 168) × (rest ≡ after (t * per) rest₀) × Done p64 per (elements p64 frac-bits gradient) rest₀ t results × (0 < t → wordsOf norm ≡ trueSqNorm frac-bits gradient)
 
 abbrev μ-loop : tie.MeasureT-loop
-μ-loop gradient scale frac-bits per buffer₀ results₀ most state₀ norm₀ t₀ buffer results state norm t = length results₀ - t
+μ-loop gradient scale frac-bits per buffer₀ results₀ most rest₀ norm₀ t₀ buffer results rest norm t = length results₀ - t
 
 block-of : (c : tie.After-at-most Inv-loop μ-loop) → let s = c .before .before .before .before .before .before .before in let l = c .before .before .loop in Block (s .args .per) (length (s .args .buffer .now)) (length (l .results)) (l .t) (c .at-most .result) (s .pre .1 .0 .1 .0) (c .before .loop-test .taken) (c .at-most .ensures)
 block-of c = block _ _ _ _ _ _ _ _
@@ -88,7 +88,7 @@ loop-again c =
       d .kept .1 .1 .0 ∙ l .inv .1,
       same-len-mid (l .t) (e - l .t) (l .results) (r .last .1 .1 .1 .1 .1 .0) (r .kept .1 .1 .1 .1 .1 .0) ∙ l .inv .2,
       d .ensures .1 .1,
-      after-more (l .t) e (s .args .per) (s .args .stream) (l .state) _ (omega (arith, b)) (l .inv .4) (d .ensures .1 .0),
+      after-more (l .t) e (s .args .per) (s .args .stream) (l .rest) _ (omega (arith, b)) (l .inv .4) (d .ensures .1 .0),
       next p64 (s .args .per) (elements p64 (s .args .frac-bits) (s .args .gradient .now)) (s .args .stream) (l .t) e _ _ (l .results) _ _ (omega (arith, b), b .inside) (r .kept .1 .1 .1 .1 .1 .0 ∙ mid) mid (omega (arith, b .room, l .inv .1, d .kept .1 .1 .0)) (d .ensures .0 ∙ ap (drawn ((e - l .t) * s .args .per)) (l .inv .4)) (l .inv .5) (r .ensures .1),
       (λ h. r .ensures .0),
     )

@@ -6,7 +6,7 @@ use lib.ListN.{length}
 use Rattle.field64.specs.Field.{p64}
 use Rattle.turboshake.specs.Stream.{drawn, after}
 use native.Mathlib.Nat.{div-le-self}
-use Rattle.columns.proofs.Swapped.{part-long}
+use Rattle.groups.proofs.Swapped.{part-long}
 use borrow.Rule.Slice.PartMut.{same-len-mid}
 use Rattle.wr_joint_rand.proofs.Blocks.{Done, none, next, all, start-is, after-more, Block, block, fewer}
 use Rattle.wr_joint_rand.proofs.run_blocks.Statement.{statement}

@@ -1,2 +1,0 @@
--- What the inner functions of the tests give.
-pub mod Columns

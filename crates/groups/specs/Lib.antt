@@ -1,0 +1,2 @@
+-- The tests by groups of columns.
+pub mod Groups

@@ -1,0 +1,2 @@
+-- What the weights are.
+pub mod Weights
