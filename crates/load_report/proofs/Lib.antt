@@ -1,0 +1,4 @@
+-- What the proofs of the functions cite: `Drawn` of the state and the draws, `Lines` of the text, `Reported` of what is written.
+mod Drawn
+mod Lines
+mod Reported
