@@ -167,23 +167,24 @@ module _ (limits text row : List ℕ) (at k : ℕ) (r : Reading limits text row 
 -- ---- within the limits
 
 -- a line up to m, and the lines after it
-record First (m : ℕ) (read : List ℕ → Option (List ℕ)) (ns : List ℕ) : Type 0 where
-  n : ℕ
-  rest : List ℕ
-  others : List ℕ
-  fits : n ≤ m
-  then : read rest ≡ some others
-  is : ns ≡ n ∷ others
+pub record First (m : ℕ) (l : Line) (read : List ℕ → Option (List ℕ)) (ns : List ℕ) : Type 0 where
+  pub n : ℕ
+  pub rest : List ℕ
+  pub others : List ℕ
+  pub line : l ≡ number n rest
+  pub fits : n ≤ m
+  pub then : read rest ≡ some others
+  pub is : ns ≡ n ∷ others
 
-first : (m : ℕ) (l : Line) (read : List ℕ → Option (List ℕ)) (ns : List ℕ) → andThen (upTo m l) read ≡ some ns → First m read ns
+pub first : (m : ℕ) (l : Line) (read : List ℕ → Option (List ℕ)) (ns : List ℕ) → andThen (upTo m l) read ≡ some ns → First m l read ns
 first m other read ns e = absurd (Option·none-ne-some _ e)
 first m (number n rest) read ns e = go (leb n m) refl e
   where
-    after : (o : Option (List ℕ)) → read rest ≡ o → n ≤ m → before n o ≡ some ns → First m read ns
+    after : (o : Option (List ℕ)) → read rest ≡ o → n ≤ m → before n o ≡ some ns → First m (number n rest) read ns
     after none q h e = absurd (Option·none-ne-some _ e)
-    after (some ms) q h e = record { n = n; rest = rest; others = ms; fits = h; then = q; is = sym (Option·some-injective _ _ e) }
+    after (some ms) q h e = record { n = n; rest = rest; others = ms; line = refl; fits = h; then = q; is = sym (Option·some-injective _ _ e) }
 
-    go : (t : Bool) → leb n m ≡ t → andThen (cond t (number n rest) other) read ≡ some ns → First m read ns
+    go : (t : Bool) → leb n m ≡ t → andThen (cond t (number n rest) other) read ≡ some ns → First m (number n rest) read ns
     go true q e = after (read rest) refl (leb-true n m q) e
     go false q e = absurd (Option·none-ne-some _ e)
 
