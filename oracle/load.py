@@ -6,7 +6,7 @@ Also texts of loads, good and damaged, and the cases `load BYTES` of `replay`.
 import math
 import re
 
-from common import INPUTS, P, TOP, WIDE, Case, Inputs, Kind, Later, below, first_rule, octets, sizes
+from common import BAD, INPUTS, P, TOP, WIDE, Case, Inputs, Kind, Later, below, first_rule, lent, octets, refused, sizes
 from reports import bits, results_of
 
 NEWLINE = b"\n"
@@ -204,7 +204,7 @@ def draw_text(rng, most_d=MAX_D):
 
 # Fixed texts
 
-PLAIN = (1, 10, 4, 4, 1, 1, 2, 2, 87, 10, 0, 0)
+PLAIN = (1, 20, 4, 4, 1, 1, 2, 2, 87, 10, 0, 0)
 
 
 def put(numbers, **changes):
@@ -247,8 +247,10 @@ def every_damage():
 
 # The cases of `replay`
 
-def load(text):
-    return Case("load", f"load {octets(text)}", f"ok {octets(report(text))}")
+def load(text, out=()):
+    written = report(text)
+    want = f"ok {octets(written)}" if not out or out[0] == len(written) else refused(7, 2)
+    return Case("load", f"load {octets(text)}{lent(out)}", want)
 
 
 def draw(rng):
@@ -258,6 +260,12 @@ def draw(rng):
 def limits():
     for text in (*every_limit(), *every_damage()):
         yield load(text)
+    for text in (text_of(PLAIN), text_of(put(PLAIN, seed=0)), b"x"):
+        for more in (-1, 0, 1):
+            if len(report(text)) + more >= 0:
+                yield load(text, (len(report(text)) + more,))
+    for line in ("load", "load 3", "load 0g", "load - -", "load - out 15745"):
+        yield Case("load", line, BAD)
 
 
 KINDS = {"load": Kind(draw, limits, drawn=60, worked_out=True)}

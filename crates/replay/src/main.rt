@@ -7,6 +7,7 @@ mod aggregates;
 mod cases;
 mod circuits;
 mod inputs;
+mod loads;
 mod reports;
 mod vectors;
 
