@@ -44,11 +44,11 @@ fn fill_gradient(seed: u64, row: &mut [f64]) -> u64
 fn fill_stream(state: u64, row: &mut [u8])
     ensures { λ _. ⌜ now (row .exit) ≡ map streamByte (states (length (now (row .entry))) state) ⌝ }
 {
-    let mut x = state;
+    let mut s = state;
     let mut i = 0;
     while i < row.len() {
-        x = step(x);
-        row[i] = (x % 256) as u8;
+        s = step(s);
+        row[i] = (s % 256) as u8;
         i += 1;
     }
 }

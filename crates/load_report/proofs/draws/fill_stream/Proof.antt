@@ -12,12 +12,12 @@ use Rattle.load_report.proofs.Drawn.{after-next, length-drawn, drawn-at
 use Rattle.load_report.proofs.draws.fill_stream.Statement.{statement}
 use Rattle.load_report.proofs.draws.fill_stream.Tie as tie
 
--- the row has the first i draws, and x is the state that the last of them used
+-- the row has the first i draws, and s is the state that the last of them used
 abbrev Inv-loop : tie.InvT-loop
-Inv-loop state row₀ x₀ i₀ row x i = Walking (map streamByte (states (length row₀) state)) row₀ row i × (x ≡ after i state)
+Inv-loop state row₀ s₀ i₀ row s i = Walking (map streamByte (states (length row₀) state)) row₀ row i × (s ≡ after i state)
 
 abbrev μ-loop : tie.MeasureT-loop
-μ-loop state row₀ x₀ i₀ row x i = length row₀ - i
+μ-loop state row₀ s₀ i₀ row s i = length row₀ - i
 
 loop-holds : tie.Need-loop-holds Inv-loop μ-loop
 unfolding after
@@ -45,7 +45,7 @@ loop-again c =
     let d = s .args .row .now in
     let e = c .step .ensures in (
       walking-next 0 (map streamByte (states (length d) (s .args .state))) d (l .loop .row) (l .loop .i) (streamByte (c .step .result)) (length-drawn streamByte (length d) (s .args .state)) (l .loop .inv .0) (omega arith)
-          (ap streamByte e ∙ drawn-at streamByte (length d) (s .args .state) (l .loop .i) (l .loop .x) (omega arith) (l .loop .inv .1)),
+          (ap streamByte e ∙ drawn-at streamByte (length d) (s .args .state) (l .loop .i) (l .loop .s) (omega arith) (l .loop .inv .1)),
       e ∙ ap step (l .loop .inv .1) ∙ sym (after-next (l .loop .i) (s .args .state)),
     )
 
