@@ -4,7 +4,7 @@ use libc::STDOUT_FILENO;
 ghost use mathlib.Core.Path.{_≡_};
 ghost use lib.ListN.{length};
 
-// More bytes than the text of a load can have (`long-text`, load_report/proofs/Sense.antt): where the input has more, both
+// More bytes than the text of a load can have (`long-nothing`, load_report/proofs/Reported.antt): where the input has more, both
 // it and these are other text.
 const TEXT: usize = 256;
 

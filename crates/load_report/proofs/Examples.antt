@@ -1,11 +1,9 @@
 -- Worked rows, computed from the definitions. Assumes nothing.
 use mathlib.Core.Path.{_≡_, refl}
-use mathlib.Core.Bool.{true, false}
 use mathlib.Core.List.{List, [], _∷_, _++_, map}
-use Prim.Native.Nat.{ℕ, _+_, _-_, _^_}
-use lib.IntN.{negsuc, pos}
+use Prim.Native.Nat.{ℕ, _+_, _-_}
 use lib.ListN.{length, take}
-use lib.Ieee.{Float, fin, ofInt, div, round, odd, units, size, span, climb}
+use lib.Ieee.{ofInt, div, round, odd, units, size, span, climb}
 use lib.Count.{trailingZeros}
 use Rattle.field64.specs.Field.{p64}
 use Rattle.field64.specs.Sums.{evaluate}
@@ -18,31 +16,9 @@ use Rattle.pine.specs.Record.{halvings, digits, sqNormBound, sqNormBits, wrTest
 use Rattle.flp.specs.Bits.{bits, groups}
 use Rattle.flp.specs.Tests.{pairs, weighed, weigh, testOf, testsOf}
 use Rattle.flp.specs.Encode.{elements, sqNorm, trueSqNorm, testBits, resultsOf, measurementOf, coordinatesRule, everyRule, enoughRule, rangeRule, countInRange, encodeRules, encodeOf}
-use Rattle.load_report.specs.Draws.{step, states, coordinate, gradientOf, streamOf}
-use Rattle.load_report.specs.Text.{digitsFrom, firstLine, numbersOf}
+use Rattle.load_draws.specs.Draws.{step, states, coordinate}
+use Rattle.load_text.specs.Text.{digitsFrom, firstLine, numbersOf}
 use Rattle.load_report.specs.Report.{encodedOf, loadRules, wordsOf, reportOf, writeReportOf}
-
--- ---- the state and the draws
-
-pub record Draws : Type 0 where
-  pub from-1 : step 1 ≡ 1082269761
-  pub then : states 3 1 ≡ 1082269761 ∷ 1152992998833853505 ∷ 11177516664432764457 ∷ []
-  -- the highest bit of a state goes
-  pub from-high : step (2 ^ 63) ≡ 9295429630892703744
-  pub from-last : step (2 ^ 64 - 1) ≡ 1065361344
-  -- -24511 / 65536, -27583 / 65536, -22999 / 65536, and 37 / 65536
-  pub first-coordinate : coordinate (step 1) ≡ fin true 24511 (negsuc 15)
-  pub gradient : gradientOf 1 4 2 ≡ fin true 24511 (negsuc 15) ∷ fin true 27583 (negsuc 15) ∷ fin true 22999 (negsuc 15) ∷ fin false 37 (negsuc 15) ∷ []
-  pub first-byte : streamOf 1 1 1 ≡ 65 ∷ []
-  pub stream : streamOf 1 4 2 ≡ 101 ∷ 1 ∷ []
-  -- the ends of the coordinates, and 0
-  pub least : coordinate 65536 ≡ fin true 1 (negsuc 0)
-  pub middle : coordinate 32768 ≡ fin false 0 (pos 0)
-  pub greatest : coordinate (2 ^ 64 - 1) ≡ fin false 32767 (negsuc 15)
-
-pub draws : Draws
-unfolding step states coordinate ofInt div round units odd size span climb trailingZeros
-draws = record { from-1 = refl; then = refl; from-high = refl; from-last = refl; first-coordinate = refl; gradient = refl; first-byte = refl; stream = refl; least = refl; middle = refl; greatest = refl }
 
 -- ---- the text
 

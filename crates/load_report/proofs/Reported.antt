@@ -2,6 +2,7 @@
 use mathlib.Core.Path.{_≡_, refl, sym, ap, _∙_}
 use mathlib.Core.Bool.{Bool, true, false, cond}
 use mathlib.Core.List.{List, [], _∷_, _++_, append-assoc, append-nil}
+use mathlib.Core.Option.{Option}
 use Prim.Native.Nat.{ℕ, suc, _+_, _-_, _*_, _≤_, _<_}
 use native.Mathlib.Nat.{mul-le-mul}
 use native.Mathlib.Omega.{arith}
@@ -25,8 +26,9 @@ use Rattle.pine.specs.Record.{wrTestBits, bitCheckedLen, encodedInputLen, bytes
 use Rattle.pine.proofs.Sizes.{sizes-64}
 use Rattle.flp.specs.Encode.{elements, resultsOf, measurementOf, Encoded, encodeOutcome, encodeAnswer, encodeOf}
 use Rattle.flp.proofs.Fresh.{encode-answers, encode-fresh}
-use Rattle.load_report.specs.Draws.{gradientOf, streamOf}
-use Rattle.load_report.specs.Text.{loadLimits, numbersOf}
+use Rattle.load_draws.specs.Draws.{gradientOf, streamOf}
+use Rattle.load_text.specs.Text.{loadLimits, numbersOf}
+use Rattle.load_text.proofs.Sense.{long-text}
 use Rattle.load_report.specs.Report.{earlyRules, encodedIn, encodedOf, loadRules, wordsOf, wordsFor, reportOf, writeReportOf}
 
 pub two-first : (row : List ℕ) (a b : ℕ) → 2 ≤ length row → take 2 (set (set row 0 a) 1 b) ≡ a ∷ b ∷ []
@@ -178,6 +180,11 @@ joined m t a rest b la lb =
     rw (f, ← append-assoc a b) (take-at (a ++ b) _ (m + t) n)
 
 -- ---- the bytes
+
+-- for a text of more than 252 bytes nothing is written
+pub long-nothing : (text : List ℕ) → 252 < length text → reportOf text ≡ []
+unfolding reportOf elementBytes
+long-nothing text h = ap (λ (o : Option (List ℕ)). elementBytes (wordsFor o)) (long-text text h)
 
 module _ (text row : List ℕ) (n : ℕ) (l : n ≤ length row) (e : take n row ≡ wordsFor (numbersOf loadLimits text)) where
   pub bytes-are : elementBytes (take n row) ≡ reportOf text

@@ -16,8 +16,8 @@ use Rattle.pine.specs.declared.WrTestRule.the-variants.{Every, Enough}
 use Rattle.pine.specs.Param.{Field64, paramRulesUpTo}
 use Rattle.pine.specs.Record.{encodedInputLen, streamLen}
 use Rattle.flp.specs.Encode.{Encoded, encodeOf}
-use Rattle.load_report.specs.Draws.{gradientOf, streamOf}
-use Rattle.load_report.specs.Text.{loadLimits, numbersOf}
+use Rattle.load_draws.specs.Draws.{gradientOf, streamOf}
+use Rattle.load_text.specs.Text.{loadLimits, numbersOf}
 
 -- the inputs by the numbers of the lines, of which the seed is the first
 abbrev pub paramOf : List ℕ → PineParam

@@ -1,7 +1,4 @@
 // A load: a report of a made-up gradient, from the text of a seed and the inputs (docs/PINE.md, "A load").
-mod draws;
-mod text;
-
 use pine::PineParam;
 use pine::WrTestRule;
 use pine::record::Pine;
@@ -18,8 +15,8 @@ ghost use Rattle.pine.specs.declared.WrTestRule.the-variants.{Every, Enough};
 ghost use Rattle.pine.specs.Param.{Field64, paramRulesUpTo};
 ghost use Rattle.pine.specs.Record.{encodedInputLen};
 ghost use Rattle.flp.specs.Encode.{encodeOutcome, encodeOf};
-ghost use Rattle.load_report.specs.Draws.{gradientOf, streamOf};
-ghost use Rattle.load_report.specs.Text.{loadLimits, numbersOf};
+ghost use Rattle.load_draws.specs.Draws.{gradientOf, streamOf};
+ghost use Rattle.load_text.specs.Text.{loadLimits, numbersOf};
 ghost use Rattle.load_report.specs.Report.{paramOf, earlyRules, encodedIn, wordsOf, wordsFor, reportOf, writeReportOf};
 
 // The largest dimension and number of tests, and what follows from them: the bytes of a stream; the elements of a
@@ -90,7 +87,7 @@ fn encode_drawn(
 ) -> Answer
     ensures { λ r. ⌜ encodeOutcome r (now (measurement .exit)) (now (results .exit)) ≡ encodeOf Field64 param (gradientOf seed (length (now (gradient .entry))) (length (now (stream .entry)))) (streamOf seed (length (now (gradient .entry))) (length (now (stream .entry)))) (now (measurement .entry)) (now (results .entry)) ⌝ }
 {
-    draws::draw(seed, gradient, stream);
+    load_draws::draw(seed, gradient, stream);
     encode::encode_with_wr_joint_rand(param, gradient, stream, measurement, results)
 }
 
@@ -168,7 +165,7 @@ fn write_words_for(text: &[u8], row: &mut [u64]) -> usize
     ensures { λ r. ⌜ (take r (now (row .exit)) ≡ wordsFor (numbersOf loadLimits (now (text .entry)))) × (r ≤ 1968) ⌝ }
 {
     let mut numbers = [0u64; 12];
-    if !text::read_numbers(text, &mut numbers) {
+    if !load_text::read_numbers(text, &mut numbers) {
         return 0;
     }
     write_words(numbers[0], param_of(numbers), row)

@@ -8,7 +8,7 @@ use Rattle.pine.specs.declared.record.Pine.{Pine}
 use Rattle.pine.specs.Param.{Field64}
 use Rattle.pine.specs.Record.{pineOf, streamLen}
 use Rattle.flp.specs.Encode.{encodeOf}
-use Rattle.load_report.specs.Draws.{gradientOf, streamOf}
+use Rattle.load_draws.specs.Draws.{gradientOf, streamOf}
 use Rattle.load_report.proofs.Reported.{room, part-long}
 use Rattle.load_report.proofs.encode_load.Statement.{statement}
 use Rattle.load_report.proofs.encode_load.Tie as tie

@@ -9,10 +9,10 @@ use native.Mathlib.Omega.{arith}
 use lib.Dec.{lit<}
 use lib.ListN.{getD}
 use Rattle.pine.specs.declared.PineParam.{PineParam}
-use Rattle.load_report.specs.Text.{loadLimits, numbersOf}
-use Rattle.load_report.specs.Steps.{numbersIf}
+use Rattle.load_text.specs.Text.{loadLimits, numbersOf}
+use Rattle.load_text.specs.Steps.{numbersIf}
 use Rattle.load_report.specs.Report.{wordsOf, wordsFor}
-use Rattle.load_report.proofs.Lines.{denied, affirmed, within}
+use Rattle.load_text.proofs.Lines.{denied, affirmed, within}
 use Rattle.load_report.proofs.write_words_for.Statement.{statement}
 use Rattle.load_report.proofs.write_words_for.Tie as tie
 
