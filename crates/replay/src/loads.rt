@@ -1,4 +1,5 @@
 // The command on a load: the text of one, and what the program load writes for it.
+use crate::bytes;
 use crate::inputs::lent_row;
 use answers::bad;
 use answers::print;
@@ -6,54 +7,15 @@ use answers::refused_lent;
 use lines::words;
 use lines::words::Cursor;
 
-const FILLED: u8 = 0xa5;
-
-fn fill(row: &mut [u8]) {
-    let mut i = 0;
-    while i < row.len() {
-        row[i] = FILLED;
-        i += 1;
-    }
-}
-
-fn is_filled(row: &[u8]) -> bool {
-    let mut i = 0;
-    while i < row.len() {
-        if row[i] != FILLED {
-            return false;
-        }
-        i += 1;
-    }
-    true
-}
-
-fn wide(b: u8) -> u64 {
-    b as u64
-}
-
-// Two digits a byte, or - for no bytes.
-fn put_bytes(out: &mut [u8], at: usize, row: &[u8]) -> usize {
-    if row.len() == 0 {
-        return print::text(out, at, b"-");
-    }
-    let mut to = at;
-    let mut i = 0;
-    while i < row.len() {
-        to = print::hex(out, to, b"", wide(row[i]), 2);
-        i += 1;
-    }
-    to
-}
-
 fn answer_load(text: &[u8], report: &mut [u8], out: &mut [u8], at: usize) -> usize {
-    fill(report);
+    bytes::fill(report);
     let answer = load_report::write_report(text, report);
     if answer.number == 0 {
         let to = print::text(out, at, b"ok ");
-        let to = put_bytes(out, to, report);
+        let to = bytes::put(out, to, report);
         print::text(out, to, b"\n")
     } else {
-        refused_lent(out, at, answer, is_filled(report))
+        refused_lent(out, at, answer, bytes::is_filled(report))
     }
 }
 

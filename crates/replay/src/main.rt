@@ -4,6 +4,7 @@ use answers::print;
 use libc::STDIN_FILENO;
 
 mod aggregates;
+mod bytes;
 mod cases;
 mod circuits;
 mod inputs;

@@ -1,12 +1,12 @@
--- `replay::loads::fill` is safe and ends. The invariant: the row keeps its length.
+-- `replay::bytes::fill` is safe and ends. The invariant: the row keeps its length.
 -- Assumes nothing.
 use borrow.Author.Needs.{needs}
 use Prim.Native.Nat.{_≤_, _-_}
 use mathlib.Core.Path.{_≡_}
 use native.Mathlib.Omega.{arith}
 use lib.ListN.{length, length-set}
-use Rattle.replay.proofs.loads.fill.Statement.{statement}
-use Rattle.replay.proofs.loads.fill.Tie as tie
+use Rattle.replay.proofs.bytes.fill.Statement.{statement}
+use Rattle.replay.proofs.bytes.fill.Tie as tie
 
 abbrev Inv-loop : tie.InvT-loop
 Inv-loop row₀ i₀ row i = (length row ≡ length row₀) × (i ≤ length row₀)

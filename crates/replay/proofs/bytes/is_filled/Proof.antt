@@ -1,10 +1,10 @@
--- `replay::loads::is_filled` is safe and ends. The measure is what is left of the row.
+-- `replay::bytes::is_filled` is safe and ends. The measure is what is left of the row.
 -- Assumes nothing.
 use borrow.Author.Needs.{needs}
 use Prim.Native.Nat.{_≤_, _-_}
 use lib.ListN.{length}
-use Rattle.replay.proofs.loads.is_filled.Statement.{statement}
-use Rattle.replay.proofs.loads.is_filled.Tie as tie
+use Rattle.replay.proofs.bytes.is_filled.Statement.{statement}
+use Rattle.replay.proofs.bytes.is_filled.Tie as tie
 
 abbrev Inv-loop : tie.InvT-loop
 Inv-loop row i₀ i = i ≤ length row

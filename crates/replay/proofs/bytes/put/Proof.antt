@@ -1,11 +1,11 @@
--- `replay::loads::put_bytes` is safe and ends. The invariant also has the length of `t7`, the empty name before a byte.
+-- `replay::bytes::put` is safe and ends. The invariant also has the length of `t7`, the empty name before a byte.
 -- Assumes nothing.
 use borrow.Author.Needs.{needs}
 use Prim.Native.Nat.{_≤_, _-_}
 use mathlib.Core.Path.{_≡_}
 use lib.ListN.{length}
-use Rattle.replay.proofs.loads.put_bytes.Statement.{statement}
-use Rattle.replay.proofs.loads.put_bytes.Tie as tie
+use Rattle.replay.proofs.bytes.put.Statement.{statement}
+use Rattle.replay.proofs.bytes.put.Tie as tie
 
 abbrev Inv-loop : tie.InvT-loop
 Inv-loop out₀ at row to₀ i₀ t7 out to i = (length out ≡ length out₀) × (length t7 ≡ 0) × (i ≤ length row)
@@ -55,8 +55,8 @@ same-length-2 c = search needs
 returns-2 : tie.Need-returns-2 Inv-loop μ-loop
 returns-2 c = search needs
 
-pub put-bytes-spec : {M : Type 1} → statement M
-put-bytes-spec =
+pub put-spec : {M : Type 1} → statement M
+put-spec =
     tie.close
     (tie.spec
     Inv-loop
