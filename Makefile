@@ -1,8 +1,10 @@
 # Thin: each target is one command or two. A line that begins with '#:' is what bare make prints.
-.PHONY: help demo test lib install example attack linked differential bench
+.PHONY: help demo load test lib install example attack linked differential bench
 
 #: make demo           a day on the farm: two controllers of valves, two servers, the sums
 #:                     needs the Rattle kit (rt on the PATH); some seconds
+#: make load           reports of made-up gradients, their checksum and time; SEED, REPORTS and the inputs (docs/LOAD.md)
+#:                     needs the kit; about 2 minutes from nothing, seconds where all is proved
 #: make test           the gate: proves every crate from nothing, tries the edits that must fail, runs the programs
 #:                     needs the kit; about 40 minutes on two threads of one core
 #: make lib            build/libpine_c.a, proved, with pine.h beside it
@@ -32,6 +34,13 @@ kit = @command -v rt >/dev/null || { echo "rt is not on the PATH: install the Ra
 demo:
 	$(kit)
 	rt try demo && cat crates/demo/stdout
+
+load:
+	$(kit)
+	@mkdir -p build
+	@rt check load >build/load.log 2>&1 || { tail -n 40 build/load.log >&2; echo "not proved: build/load.log has it whole" >&2; exit 1; }
+	@SEED='$(SEED)' REPORTS='$(REPORTS)' N='$(N)' D='$(D)' F='$(F)' C='$(C)' E='$(E)' T='$(T)' K='$(K)' NUM='$(NUM)' DEN='$(DEN)' \
+		RULE='$(RULE)' SWITCH='$(SWITCH)' examples/load/run
 
 # .ci/run runs this
 test:

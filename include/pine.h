@@ -98,8 +98,10 @@ enum PineRule {
     PINE_ALPHA = 19,             /* alpha_numerator or alpha_denominator is 0; place 0 */
     PINE_WR_TESTS_IN_RANGE = 20, /* by PINE_ENOUGH_TESTS, fewer than num_wr_successes tests are in range; place:
                                   * how many are */
-    PINE_TRUE_SQ_NORM = 21       /* with true_sq_norm on, the squared norm without reduction is above
+    PINE_TRUE_SQ_NORM = 21,      /* with true_sq_norm on, the squared norm without reduction is above
                                   * norm_bound^2; place 0 */
+    PINE_LOAD_SEED = 22          /* the seed of a load is 0; place 0. No call here answers it: the program
+                                  * load writes it (docs/LOAD.md) */
 };
 
 /* What an answer's number says, in words; one text for every number that is no rule. */
@@ -123,6 +125,7 @@ static inline const char *pine_rule_text(uint64_t number) {
     case PINE_ALPHA: return "alpha_numerator or alpha_denominator is 0";
     case PINE_WR_TESTS_IN_RANGE: return "too few wraparound tests are in range";
     case PINE_TRUE_SQ_NORM: return "the squared norm without reduction is above its bound";
+    case PINE_LOAD_SEED: return "the seed of a load is 0";
     default: return "no rule has this number";
     }
 }

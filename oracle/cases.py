@@ -3,8 +3,8 @@
 A case is a line to ask, and what must be answered to it:
 
     OK                       it is accepted: the original's own `ok ..` line, whatever that is
-    ok ..                    the same, worked out here: of subtract, unmerge and a part of a full vector, which the original
-                             has no call for, and of a case with later inputs
+    ok ..                    the same, worked out here: of subtract, unmerge, a part of a full vector and a load, which the
+                             original has no call for, and of a case with later inputs
     refused NUMBER PLACE     it is refused, by the first rule broken
     bad                      the line is malformed
     nothing                  a blank line or a comment, which has no answer
@@ -21,6 +21,7 @@ import random
 
 import aggregates
 import circuits
+import load
 import multiplier
 import parts
 import reports
@@ -30,7 +31,7 @@ import true_length
 from common import BAD, NONE, OK, TOP, Case, below
 
 KINDS = {**singles.KINDS, **reports.KINDS, **circuits.KINDS, **parts.KINDS, **aggregates.KINDS, **multiplier.KINDS,
-         **test_rule.KINDS, **true_length.KINDS}
+         **test_rule.KINDS, **true_length.KINDS, **load.KINDS}
 
 
 # Malformed lines, and lines without an answer
@@ -78,6 +79,8 @@ def spoil_words(rng, words):
     elif way == 3:
         at = rng.randrange(1, len(words))
         words[at] = rng.choice([word for word in NONSENSE if word != "-"])     # which stands for no bytes
+    elif kind == "load":    # whose word is no number
+        words[1] = rng.choice((words[1] + "0", words[1][:-1] + "g", "0x" + words[1]))
     elif way == 4 and len(words) > 8 and kind in COUNTED:
         words[8] = str(rng.choice((2**32, 2**63, TOP)) + below(rng, 2) * below(rng, 9) - 9)
     else:

@@ -88,6 +88,8 @@ rules! {
     WrTestsInRange = 20: "fewer wraparound tests are in range than num_wr_successes",
     /// With true_sq_norm on; that is the squared norm without reduction modulo p.
     TrueSqNorm = 21: "the true squared norm is above its bound",
+    /// No call answers it: the program `load` writes it.
+    LoadSeed = 22: "the seed of a load is 0",
 }
 
 impl Error {

@@ -79,7 +79,7 @@ fn every_rule_has_the_headers_number() {
 
 #[test]
 fn an_unknown_number_is_kept() {
-    for number in [14, 18, 22, u64::MAX] {
+    for number in [14, 18, 23, u64::MAX] {
         let refusal = Error::of(number, 5).unwrap_err();
         assert_eq!(refusal.rule, Rule::Other(number));
         assert_eq!(refusal.rule.number(), number);

@@ -5,8 +5,8 @@ use pine::record::Lengths;
 use pine::record::Pine;
 use rules::Answer;
 ghost use mathlib.Core.Path.{_≡_};
-ghost use Rattle.rules.specs.Rules.{refuse, first, outOf};
-ghost use Rattle.pine.specs.Param.{Field64, alphaRule, paramAnswer};
+ghost use Rattle.rules.specs.Rules.{refuse, first, inOrder, outOf};
+ghost use Rattle.pine.specs.Param.{Field64, alphaRule, paramRulesUpTo, paramAnswer};
 ghost use Rattle.pine.specs.Record.{deriveOf};
 
 // The rule, at place 0, that x is from 1 to max.
@@ -25,9 +25,9 @@ fn check_alpha(numerator: u16, denominator: u16) -> Answer
     above.or(below)
 }
 
-// Rules 1 to 6, then 19.
-pub fn check_param(param: PineParam) -> Answer
-    ensures { λ r. ⌜ r ≡ paramAnswer Field64 param ⌝ }
+// Rules 1 to 6, then 19, for a dimension and a number of tests up to these.
+pub fn check_param_up_to(param: PineParam, max_dimension: u64, max_wr_tests: u64) -> Answer
+    ensures { λ r. ⌜ r ≡ inOrder (paramRulesUpTo Field64 «max_dimension» «max_wr_tests» param) ⌝ }
 {
     let successes = Answer::refuse_if(
         param.num_wr_tests < param.num_wr_successes,
@@ -35,14 +35,21 @@ pub fn check_param(param: PineParam) -> Answer
         0,
     );
     let norm_bound = limit(param.norm_bound, 3037000499, rules::NORM_BOUND);
-    let dimension = limit(param.dimension, 65536, rules::DIMENSION);
+    let dimension = limit(param.dimension, max_dimension, rules::DIMENSION);
     let frac_bits = doubles::check_frac_bits(param.frac_bits);
     let chunk_len = limit(param.chunk_len, 65536, rules::CHUNK_LEN);
     let chunk_len_sq_norm_equal = limit(param.chunk_len_sq_norm_equal, 65536, rules::CHUNK_LEN);
-    let num_wr_tests = limit(param.num_wr_tests, 256, rules::NUM_WR_TESTS);
+    let num_wr_tests = limit(param.num_wr_tests, max_wr_tests, rules::NUM_WR_TESTS);
     let alpha = check_alpha(param.alpha_numerator, param.alpha_denominator);
     let chunks = chunk_len.or(chunk_len_sq_norm_equal.or(num_wr_tests.or(alpha)));
     successes.or(norm_bound.or(dimension.or(frac_bits.or(chunks))))
+}
+
+// Rules 1 to 6, then 19.
+pub fn check_param(param: PineParam) -> Answer
+    ensures { λ r. ⌜ r ≡ paramAnswer Field64 param ⌝ }
+{
+    check_param_up_to(param, 65536, 256)
 }
 
 // The record and every length, from the inputs.

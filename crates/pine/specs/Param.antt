@@ -64,19 +64,23 @@ chunkRule c = refuse (outOf c 65536) 5 0
 abbrev pub alphaRule : ℕ → Answer
 alphaRule a = refuse (outOf a 65535) 19 0
 
--- the rules on the inputs, in their order
-unfoldable pub paramRules : Field → PineParam → List Answer
-paramRules F i =
+-- the rules on the inputs, in their order, for a dimension up to D and up to M tests
+abbrev pub paramRulesUpTo : Field → (D M : ℕ) → PineParam → List Answer
+paramRulesUpTo F D M i =
     refuse (ltb (i .«num_wr_tests») (i .«num_wr_successes»)) 1 0
     ∷ refuse (outOf (i .«norm_bound») (F .normLimit)) 2 0
-    ∷ refuse (outOf (i .dimension) 65536) 3 0
+    ∷ refuse (outOf (i .dimension) D) 3 0
     ∷ fracBitsRule (i .«frac_bits»)
     ∷ chunkRule (i .«chunk_len»)
     ∷ chunkRule (i .«chunk_len_sq_norm_equal»)
-    ∷ refuse (outOf (i .«num_wr_tests») 256) 6 0
+    ∷ refuse (outOf (i .«num_wr_tests») M) 6 0
     ∷ alphaRule (i .«alpha_numerator»)
     ∷ alphaRule (i .«alpha_denominator»)
     ∷ []
+
+-- the same for as many as every call takes
+unfoldable pub paramRules : Field → PineParam → List Answer
+paramRules F i = paramRulesUpTo F 65536 256 i
 
 unfoldable pub paramAnswer : Field → PineParam → Answer
 paramAnswer F i = inOrder (paramRules F i)

@@ -4,6 +4,7 @@ use crate::aggregates::Call;
 use crate::circuits;
 use crate::inputs::read_later;
 use crate::inputs::read_param;
+use crate::loads;
 use crate::reports;
 use crate::vectors;
 use crate::vectors::Which;
@@ -93,7 +94,15 @@ fn decode(line: &[u8], c: Cursor, out: &mut [u8], at: usize) -> usize {
     answer_hex(out, at, decoded.answer, pattern_of(decoded.value), 16)
 }
 
-// The commands on the parts of a full vector.
+// The command on a load.
+fn of_loads(name: &[u8], line: &[u8], c: Cursor, out: &mut [u8], at: usize) -> usize {
+    if check::same(name, b"load") {
+        return loads::load(line, c, out, at);
+    }
+    bad(out, at)
+}
+
+// The commands on the parts of a full vector, and that above.
 fn of_vectors(name: &[u8], line: &[u8], c: Cursor, out: &mut [u8], at: usize) -> usize {
     if check::same(name, b"gradient_part") {
         return vectors::part(line, c, out, at, Which::Gradient);
@@ -104,7 +113,7 @@ fn of_vectors(name: &[u8], line: &[u8], c: Cursor, out: &mut [u8], at: usize) ->
     if check::same(name, b"results_part") {
         return vectors::part(line, c, out, at, Which::Results);
     }
-    bad(out, at)
+    of_loads(name, line, c, out, at)
 }
 
 // The commands on a report and on the circuits, and those above.

@@ -4,9 +4,11 @@ use answers::print;
 use libc::STDIN_FILENO;
 
 mod aggregates;
+mod bytes;
 mod cases;
 mod circuits;
 mod inputs;
+mod loads;
 mod reports;
 mod vectors;
 

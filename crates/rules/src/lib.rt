@@ -1,7 +1,8 @@
 // What every call answers: the number and the place of the first rule broken, or 0 and 0. Here stand
 // the rules' numbers, by name, and the order by which the first refusal decides. The table of the rules
 // is in docs/PINE.md, "The rules"; what each says is defined where it applies: in the specs/ of pine (1
-// to 6, and 19), doubles (4, and 8 and 12 of one number), rows (7 and 12) and flp (8 to 11, 13, 17, 20 and 21).
+// to 6, and 19), doubles (4, and 8 and 12 of one number), rows (7 and 12), flp (8 to 11, 13, 17, 20 and 21) and
+// load_report (22).
 ghost use mathlib.Core.Path.{_≡_};
 ghost use mathlib.Core.Bool.{cond};
 ghost use lib.Dec.{eqb};
@@ -41,6 +42,8 @@ pub const ALPHA: u64 = 19;
 pub const WR_TESTS_IN_RANGE: u64 = 20;
 // The squared norm without reduction is above its bound.
 pub const TRUE_SQ_NORM: u64 = 21;
+// The seed of a load is 0.
+pub const LOAD_SEED: u64 = 22;
 
 // The rule that was broken and its place, or 0 and 0.
 #[repr(C)]

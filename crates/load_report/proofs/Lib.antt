@@ -1,0 +1,3 @@
+-- What the proofs of the functions cite: `Reported`. `Examples` has worked rows.
+mod Reported
+mod Examples
