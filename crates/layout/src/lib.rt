@@ -5,9 +5,9 @@ ghost use mathlib.Core.Path.{_≡_};
 ghost use Prim.Native.Nat.{_+_, _*_, _≤_, _<_, _^_};
 ghost use lib.ListN.{length};
 ghost use Rattle.field64.specs.Field.{p64};
-ghost use Rattle.rows.specs.Rows.{rowRule};
+ghost use Rattle.rows.specs.Rows.{rowRule, Below};
 ghost use Rattle.octets.specs.Octets.{elementsIn, filled};
-ghost use Rattle.entries.specs.File.{countIn, isRows, isFile, fileLen, header};
+ghost use Rattle.entries.specs.File.{countIn, allBelow, isRows, isFile, fileLen, header};
 ghost use Rattle.layout.specs.Layout.{fileRule};
 
 // Rule 7, of a row of units: its length is to be unit * count, which may be too large for 64 bits.
@@ -46,6 +46,33 @@ pub fn file_len(dimension: u64, count: u64) -> u64
     6 + count * (12 + 8 * dimension)
 }
 
+// 2^63 or more just where one of the elements in the bytes is not below p. Each is tested, with no branch,
+// so that the loop runs on vectors.
+fn carries(bytes: &[u8], count: usize) -> u64
+    requires { ⌜ length (now bytes) ≡ 8 * count ⌝ }
+    ensures { λ r. ⌜ (r < 2 ^ 63 → Below p64 (elementsIn count (now (bytes .entry)))) ⌝ }
+    ensures { λ r. ⌜ (Below p64 (elementsIn count (now (bytes .entry))) → r < 2 ^ 63) ⌝ }
+{
+    let mut seen = 0;
+    let mut i = 0;
+    while i < count {
+        let at = 8 * i;
+        let end = at + 8;
+        let element = octets::number8(&bytes[at..end]);
+        seen = rows::scan::or_carry(seen, element);
+        i += 1;
+    }
+    seen
+}
+
+// Whether each of the elements in the bytes is below p.
+fn elements_below(bytes: &[u8], count: usize) -> bool
+    requires { ⌜ length (now bytes) ≡ 8 * count ⌝ }
+    ensures { λ r. ⌜ r ≡ allBelow p64 (elementsIn count (now (bytes .entry))) ⌝ }
+{
+    carries(bytes, count) < 1 << 63
+}
+
 // Whether the rows of a file make one: contents as bytes, and so many elements as bytes.
 pub fn is_rows_in(count: usize, contents: &[u8], elements: usize, bodies: &[u8]) -> bool
     requires { ⌜ (length (now contents) ≡ 12 * count) × (length (now bodies) ≡ 8 * elements) ⌝ }
@@ -56,7 +83,7 @@ pub fn is_rows_in(count: usize, contents: &[u8], elements: usize, bodies: &[u8])
     }
     let rise = entries::keys_rise(contents, count);
     if rise {
-        return entries::elements_below(bodies, elements);
+        return elements_below(bodies, elements);
     }
     false
 }
