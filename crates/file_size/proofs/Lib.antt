@@ -3,3 +3,4 @@ pub mod Moved
 pub mod Steps
 pub mod Days
 pub mod Sizes
+mod Examples
