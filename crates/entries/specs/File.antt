@@ -32,6 +32,12 @@ keyNumber a v = 65536 * highFirst a + v
 abbrev pub keyOf : Entry → ℕ
 keyOf e = keyNumber (e .address) (e .valve)
 
+-- the same order byte by byte, which no other definition needs: of two rows of as many bytes, whether the first comes before the other; rest says it where the bytes are equal
+abbrev pub lessBytes : (xs ys : List ℕ) (rest : Bool) → Bool
+lessBytes [] ys rest = rest
+lessBytes (a ∷ xs) [] rest = false
+lessBytes (a ∷ xs) (b ∷ ys) rest = cond (ltb a b) true (cond (eqb a b) (lessBytes xs ys rest) false)
+
 -- the key in the first eight bytes: six of the address, two of the valve
 abbrev pub valveIn : List ℕ → ℕ
 valveIn bs = fromBytes (take 2 (drop 6 bs))

@@ -16,9 +16,9 @@ use Rattle.rows.proofs.Elements.{below-take, below-drop}
 use Rattle.rows.proofs.Added.{length-addRows, getD-addRows}
 use Rattle.octets.specs.Octets.{toBytes}
 use Rattle.octets.proofs.Bytes.{to-from-long}
-use Rattle.entries.specs.File.{Entry, keyIn, valveIn, keyOf, keysOf, FileOk, fileOf, fresh, held, entryFor, placed, raised, added}
+use Rattle.entries.specs.File.{Entry, keyIn, valveIn, lessBytes, keyOf, keysOf, FileOk, fileOf, fresh, held, entryFor, placed, raised, added}
 use Rattle.entries.proofs.Adding.{found-key, found-placed, found-other, fresh-ok, ok-found, inserted, keys-placed}
-use Rattle.entries.proofs.Keys.{key-injective}
+use Rattle.entries.proofs.Keys.{key-injective, key-order}
 use Rattle.file_add.specs.Add.{addAnswer}
 use Rattle.correctness.specs.Tally.{eqRow, count, Aggregate, FieldRow, Each}
 use Rattle.correctness.proofs.Counts.{eqRow-true, eqRow-refl, sumOver}
@@ -35,6 +35,12 @@ module _ (g h : List ℕ) (k : Key g) (l : Key h) (e : keyIn g ≡ keyIn h) wher
       let a = fresh-ok p64 0 (omega arith) g (k .long) (k .bytes) in
       let b = fresh-ok p64 0 (omega arith) h (l .long) (l .bytes) in
       key-injective (take 6 g) (take 6 h) (valveIn g) (valveIn h) (a .address-long ∙ sym (b .address-long)) (a .address-bytes) (b .address-bytes) (a .valve-fits) (b .valve-fits) e
+
+pub order : (g h : List ℕ) → Key g → Key h → ltb (keyIn g) (keyIn h) ≡ lessBytes (take 6 g) (take 6 h) (ltb (valveIn g) (valveIn h))
+order g h k l =
+    let a = fresh-ok p64 0 (omega arith) g (k .long) (k .bytes) in
+    let b = fresh-ok p64 0 (omega arith) h (l .long) (l .bytes) in
+    key-order (take 6 g) (take 6 h) (valveIn g) (valveIn h) (a .address-long ∙ sym (b .address-long)) (a .address-bytes) (b .address-bytes) (a .valve-fits) (b .valve-fits)
 
 -- the eight bytes of a key from its address and its valve
 key-whole : (g : List ℕ) → Key g → g ≡ take 6 g ++ toBytes 2 (valveIn g)

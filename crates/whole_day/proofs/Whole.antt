@@ -1,25 +1,30 @@
 -- The statements of `specs/Statements.antt` hold. Assumes nothing.
 use mathlib.Core.Path.{_≡_, refl, sym, ap, _∙_}
-use mathlib.Core.Bool.{true, not}
+use mathlib.Core.Bool.{Bool, true, false, cond, not}
 use mathlib.Core.List.{List, []}
-use Prim.Native.Nat.{ℕ, _^_, _≤_, _<_}
+use Prim.Native.Nat.{ℕ, _+_, _^_, _≤_, _<_}
 use native.Mathlib.Omega.{arith}
-use lib.ListN.{length, getD}
+use lib.ListN.{length, getD, drop}
+use lib.Seq.{take-at}
 use lib.IntN.{pos}
 use lib.Dec.{eqb}
+use borrow.Author.Tests.{eqb-true}
 use Rattle.field64.specs.Field.{p64}
 use Rattle.pine.specs.declared.PineParam.{PineParam}
 use Rattle.pine.specs.Param.{Field64, paramAnswer}
 use Rattle.flp.proofs.Gradient.{room-64}
 use Rattle.entries.specs.File.{Entry, keyIn, keysOf, FileOk, fileOf, entriesIn, isFile, held, fresh, entryFor}
-use Rattle.entries.proofs.Files.{file-accepted, entries-of-file}
+use Rattle.entries.proofs.Files.{file-met, entries-ok, file-of-entries, file-accepted, entries-of-file, length-file}
 use Rattle.day_file.proofs.Verdicts.{number, dimension-limits}
 use Rattle.day_file.proofs.Inverse.{write-read, read-write}
+use Rattle.file_add.specs.Add.{addAnswer, newFile, addOf}
+use Rattle.rows.specs.Rows.{Below}
 use Rattle.correctness.specs.Tally.{Aggregate}
 use Rattle.correctness.proofs.Tally.{Backed, of-rows}
 use Rattle.correctness.proofs.Correctness.{decodes}
-use Rattle.whole_day.specs.Day.{Key, Adding, Keys, after, entryOf}
-use Rattle.whole_day.specs.Statements.{Inverses, dayFile, dayShares, KeyDay, Day, WholeDay, OneKey, KeyDoubles, ExactSize}
+use Rattle.whole_day.specs.Day.{Key, Adding, Keys, accepts, afterOne, after, entryOf}
+use Rattle.whole_day.specs.Statements.{Inverses, dayFile, dayShares, KeyDay, Day, WholeDay, KeyDoubles, ExactSize, Files, Added, OneAdding}
+use Rattle.whole_day.proofs.Adding.{new-accepted, this-entry, other-entries, new-count}
 use Rattle.whole_day.proofs.Days.{through, through-ok, after-is}
 use Rattle.whole_day.proofs.Keys as keys
 use Rattle.whole_day.proofs.Sizes as sizes
@@ -27,8 +32,42 @@ use Rattle.whole_day.proofs.Sizes as sizes
 pub inverses : Inverses
 inverses = record { read-then-write = write-read; write-then-read = read-write }
 
-pub one-key : OneKey
-one-key = keys.one-key
+pub files : Files
+files = record {
+  made = λ d h es o.
+      let n : d < 2 ^ 32 = omega arith in
+      (file-accepted p64 d es o (omega arith) n, entries-of-file p64 d es o (omega arith) n, length-file p64 d es o (omega arith) n);
+  taken-apart = λ d file b h. (entries-ok p64 d file (file-met p64 d file h) b, file-of-entries p64 d file (file-met p64 d file h) b);
+  order = keys.order;
+  one-key = keys.one-key;
+}
+
+-- ---- one call
+
+module _ (old : List ℕ) (a : Adding) (b : Below 256 old) (k : Key (a .key)) (h : accepts old a ≡ true) where
+  abbrev new : List ℕ
+  new = newFile (a .inputs) (a .key) old (a .share)
+
+  z : addAnswer (a .inputs) (a .key) old (a .share) (length (a .second)) .number ≡ 0
+  z = unfold addOf in eqb-true _ 0 h
+
+  after-call : afterOne old a ≡ new
+  after-call = unfold addOf in rw h (take-at new (drop (length new) (a .second)) (length new) refl)
+
+  one-added : Added old a
+  one-added = record {
+    file = rw after-call (new-accepted (a .inputs) (a .key) old (a .share) _ z (k .long) (k .bytes) b);
+    this = rw after-call (this-entry (a .inputs) (a .key) old (a .share) _ z (k .long) (k .bytes) b);
+    others = λ g l n. rw after-call (other-entries (a .inputs) (a .key) old (a .share) _ z (k .long) (k .bytes) b g (λ e. n (keys.one-key g (a .key) l k e)));
+    count = rw after-call (counted (held (keyIn (a .key)) (keysOf (entriesIn (a .inputs .dimension) old))) _ _ (new-count (a .inputs) (a .key) old (a .share) _ z (k .long) (k .bytes) b));
+  }
+    where
+      counted : (t : Bool) (m n : ℕ) → m + cond t 1 0 ≡ n + 1 → m ≡ n + cond t 0 1
+      counted true m n e = omega arith
+      counted false m n e = omega arith
+
+pub one-adding : OneAdding
+one-adding = one-added
 
 module _ (d : ℕ) (small : d ≤ 65536) (calls : List Adding) (k : Keys calls) where
   begun : FileOk p64 d []

@@ -1,10 +1,10 @@
 -- What holds of the day's file as a whole, over the definitions that the calls' contracts cite. Rows are lists of numbers: a row of bytes has numbers below 256. Assumes nothing.
 use Prim.Native.Nat.{ℕ, _+_, _/_, _≤_, _<_}
 use mathlib.Core.Path.{_≡_}
-use mathlib.Core.Bool.{true, not}
+use mathlib.Core.Bool.{true, cond, not}
 use mathlib.Core.List.{List, [], map}
-use lib.ListN.{length, getD}
-use lib.Dec.{eqb}
+use lib.ListN.{length, getD, take}
+use lib.Dec.{ltb, eqb}
 use lib.Ieee.{Float}
 use Rattle.rules.specs.Rules.{accepted}
 use Rattle.field64.specs.Field.{p64}
@@ -13,22 +13,50 @@ use Rattle.pine.specs.declared.PineParam.{PineParam}
 use Rattle.pine.specs.Param.{Field64, paramAnswer}
 use Rattle.rows.specs.Rows.{Below}
 use Rattle.rows.specs.Outcome.{outcome}
-use Rattle.entries.specs.File.{countIn, keyIn, keysOf, fileOf, fileLen, entriesIn, isFile, held, mostReports}
+use Rattle.entries.specs.File.{Entry, keyIn, valveIn, lessBytes, keysOf, fileOf, fileLen, FileOk, countIn, entriesIn, isFile, held, mostReports, raised}
 use Rattle.day_file.specs.Calls.{readAnswer, readOutcome, readOf, writeAnswer, writeOf, ofLen}
 use Rattle.file_size.specs.Size.{Report, sizeAnswer, sizeOf}
 use Rattle.file_size.specs.Steps.{numbersIn}
 use Rattle.vdaf.specs.Aggregates.{unshardOf}
 use Rattle.correctness.specs.Tally.{count, FieldRow, Each}
 use Rattle.correctness.specs.Correctness as C
-use Rattle.whole_day.specs.Day.{Key, Adding, Keys, after, sharesOf, entryOf, fileDayOf, ReportsOk, keyBytes, different}
+use Rattle.whole_day.specs.Day.{Key, Adding, Keys, accepts, afterOne, after, sharesOf, entryOf, fileDayOf, ReportsOk, keyBytes, different}
 
--- ---- reading and writing are exact inverses on accepted files
+-- ---- files and their entries
+
+-- bytes are a file just where they are made from entries in order, and the entries in them are those. Keys rise by the address, its bytes compared from the first on, then by the valve as a number; keys of one number are one key, byte for byte
+pub record Files : Type 0 where
+  pub made : (d : ℕ) → d ≤ 65536 → (es : List Entry) → FileOk p64 d es → (isFile p64 d (fileOf d es) ≡ true) × (entriesIn d (fileOf d es) ≡ es) × (length (fileOf d es) ≡ fileLen d (length es))
+  pub taken-apart : (d : ℕ) (file : List ℕ) → Below 256 file → isFile p64 d file ≡ true → FileOk p64 d (entriesIn d file) × (fileOf d (entriesIn d file) ≡ file)
+  pub order : (g h : List ℕ) → Key g → Key h → ltb (keyIn g) (keyIn h) ≡ lessBytes (take 6 g) (take 6 h) (ltb (valveIn g) (valveIn h))
+  pub one-key : (g h : List ℕ) → Key g → Key h → keyIn g ≡ keyIn h → g ≡ h
+
+-- ---- reading and writing are exact inverses on files
 
 pub record Inverses : Type 0 where
   pub read-then-write : (i : PineParam) (file c b : List ℕ) → Below 256 file → readAnswer i file (length c) (length b) .number ≡ 0 → (row : List ℕ) → length row ≡ length file
       → writeOf i (countIn file) (readOf i file c b .contents) (readOf i file c b .bodies) row ≡ outcome accepted file
   pub write-then-read : (i : PineParam) (count : ℕ) (c b file : List ℕ) → writeAnswer i count c b (length file) .number ≡ 0 → (c' b' : List ℕ) → length c' ≡ length c → length b' ≡ length b
       → readOf i (writeOf i count c b file .row) c' b' ≡ readOutcome accepted c b
+
+-- ---- one accepted call of adding, on any bytes
+
+module _ (old : List ℕ) (a : Adding) where
+  abbrev dim : ℕ
+  dim = a .inputs .dimension
+
+  abbrev new : List ℕ
+  new = afterOne old a
+
+  -- the new file is a file; the entry of the key has one report more, and the share added to its body; every other key's entry is as it was; there is one entry more if the key is new, or else as many
+  pub record Added : Type 0 where
+    pub file : isFile p64 dim new ≡ true
+    pub this : entryOf dim (a .key) new ≡ raised p64 (a .share) (entryOf dim (a .key) old)
+    pub others : (g : List ℕ) → Key g → (g ≡ a .key → ⊥) → entryOf dim g new ≡ entryOf dim g old
+    pub count : length (entriesIn dim new) ≡ length (entriesIn dim old) + cond (held (keyIn (a .key)) (keysOf (entriesIn dim old))) 0 1
+
+abbrev pub OneAdding : Type 0
+OneAdding = (old : List ℕ) (a : Adding) → Below 256 old → Key (a .key) → accepts old a ≡ true → Added old a
 
 -- ---- any calls of adding on a file of d begun empty
 
@@ -54,10 +82,6 @@ module _ (d : ℕ) (calls : List Adding) where
 
 abbrev pub WholeDay : Type 0
 WholeDay = (d : ℕ) → 0 < d → d ≤ 65536 → (calls : List Adding) → Keys calls → Day d calls
-
--- keys of one number are one key, byte for byte
-abbrev pub OneKey : Type 0
-OneKey = (g h : List ℕ) → Key g → Key h → keyIn g ≡ keyIn h → g ≡ h
 
 -- ---- two servers' files
 

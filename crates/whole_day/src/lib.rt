@@ -1,21 +1,26 @@
 // Statements about the definitions of the day's file (docs/PINE.md, "The day's file"), each as what a function
 // ensures that does nothing: so the check asks for their proofs.
-ghost use Rattle.whole_day.specs.Statements.{Inverses, WholeDay, OneKey, KeyDoubles, ExactSize};
+ghost use Rattle.whole_day.specs.Statements.{Files, Inverses, OneAdding, WholeDay, KeyDoubles, ExactSize};
 
-// Reading and writing are exact inverses on accepted files.
+// Bytes are a file just where they are made from entries in order.
+pub fn files()
+    ensures { λ _. ⌜ Files ⌝ }
+{}
+
+// Reading and writing are exact inverses on files.
 pub fn inverses()
     ensures { λ _. ⌜ Inverses ⌝ }
+{}
+
+// An accepted call of adding changes one entry or places one, and no other.
+pub fn one_adding()
+    ensures { λ _. ⌜ OneAdding ⌝ }
 {}
 
 // After any calls of adding, accepted or refused, each entry counts its key's accepted reports and holds
 // their sum.
 pub fn whole_days()
     ensures { λ _. ⌜ WholeDay ⌝ }
-{}
-
-// Two keys that differ in a byte are two keys.
-pub fn one_key()
-    ensures { λ _. ⌜ OneKey ⌝ }
 {}
 
 // The bodies of one key in two servers' files give the doubles of that key's reports.
