@@ -10,9 +10,9 @@ use lib.Dec.{eqb}
 use borrow.Author.Tests.{eqb-true}
 use Rattle.field64.specs.Field.{p64}
 use Rattle.pine.specs.declared.PineParam.{PineParam}
-use Rattle.entries.specs.File.{Entry, keyIn, keysOf, entriesIn, isFile, FileOk, fileOf, fresh, held, entryFor, added}
+use Rattle.entries.specs.File.{Entry, keyIn, keysOf, entriesIn, isFile, FileOk, fileOf, mostReports, fresh, held, entryFor, added}
 use Rattle.entries.proofs.Files.{file-met, file-accepted, entries-of-file}
-use Rattle.entries.proofs.Adding.{added-ok, ok-found, fresh-ok}
+use Rattle.entries.proofs.Adding.{added-ok}
 use Rattle.file_add.specs.Add.{addAnswer, newFile, addOf}
 use Rattle.file_add.proofs.Verdicts.{AddMet, add-met}
 use Rattle.correctness.specs.Tally.{FieldRow}
@@ -54,12 +54,10 @@ module _ (d : ℕ) (small : d ≤ 65536) where
           let r = subst (λ (m : ℕ). held (keyIn (a .key)) (keysOf (entriesIn m file)) ≡ false → length (entriesIn m file) < 1024) same (met .room) in
           subst (λ (l : List Entry). held (keyIn (a .key)) (keysOf l) ≡ false → length l < 1024) back r
 
-      fits : entryFor (fresh d (a .key)) es .reports < 4294967295
+      fits : entryFor (fresh d (a .key)) es .reports ≡ mostReports → ⊥
       fits =
-          let r = subst (λ (m : ℕ). entryFor (fresh m (a .key)) (entriesIn m file) .reports ≡ 4294967295 → ⊥) same (met .reports) in
-          let q = subst (λ (l : List Entry). entryFor (fresh d (a .key)) l .reports ≡ 4294967295 → ⊥) back r in
-          let w = ok-found p64 d (fresh d (a .key)) es (fresh-ok p64 d (omega arith) (a .key) (k .long) (k .bytes)) (o .entries) .reports-fit in
-          omega arith
+          let r = subst (λ (m : ℕ). entryFor (fresh m (a .key)) (entriesIn m file) .reports ≡ mostReports → ⊥) same (met .reports) in
+          subst (λ (l : List Entry). entryFor (fresh d (a .key)) l .reports ≡ mostReports → ⊥) back r
 
       new-ok : FileOk p64 d new
       new-ok = added-ok p64 d (omega arith) (a .key) (k .long) (k .bytes) (a .share) (share-row .long) es o fits room

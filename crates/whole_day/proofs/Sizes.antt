@@ -19,7 +19,7 @@ use Rattle.rows.proofs.Lengths.{right-row}
 use Rattle.rows.proofs.Elements.{right-elements}
 use Rattle.entries.specs.File.{Entry, keyIn, keysOf, rising, fileOf, fileLen, FileOk, entriesIn, isFile, mostReports, held, index, fresh, entryFor, added}
 use Rattle.entries.proofs.Files.{file-accepted, entries-of-file, length-file, and-both}
-use Rattle.entries.proofs.Adding.{added-ok, inserted, rising-inserted, ok-found, fresh-ok}
+use Rattle.entries.proofs.Adding.{added-ok, inserted, rising-inserted}
 use Rattle.day_file.specs.Calls.{ofLen}
 use Rattle.day_file.proofs.Verdicts.{number, dimension-limits}
 use Rattle.file_add.specs.Add.{roomRule, reportsRule, addAnswer, newFile, addOutcome, addOf}
@@ -67,10 +67,8 @@ module _ (i : PineParam) (ok : paramAnswer Field64 i ≡ accepted) where
     pub next-ok : reportAnswer mostReports d (r .key) es .number ≡ 0 → FileOk p64 d (added p64 d (r .key) (r .share) es)
     next-ok z =
         let b = both (roomRule (r .key) es) (reportsRule mostReports d (r .key) es) z in
-        let w = ok-found p64 d (fresh d (r .key)) es (fresh-ok p64 d (omega arith) (r .key) (g .key .long) (g .key .bytes)) (o .entries) .reports-fit in
         let n = eqb-false (entryFor (fresh d (r .key)) es .reports) 4294967295 (not-so (eqb (entryFor (fresh d (r .key)) es .reports) 4294967295) 15 (index (keyIn (r .key)) (keysOf es)) (b .1)) in
-        let l : entryFor (fresh d (r .key)) es .reports < 4294967295 = omega arith in
-        added-ok p64 d (omega arith) (r .key) (g .key .long) (g .key .bytes) (r .share) (g .share .long) es o l (λ f. room f (held (keyIn (r .key)) (keysOf es)) refl f (not-so (not (held (keyIn (r .key)) (keysOf es)) && leb 1024 (length es)) 14 0 (b .0)))
+        added-ok p64 d (omega arith) (r .key) (g .key .long) (g .key .bytes) (r .share) (g .share .long) es o n (λ f. room f (held (keyIn (r .key)) (keysOf es)) refl f (not-so (not (held (keyIn (r .key)) (keysOf es)) && leb 1024 (length es)) 14 0 (b .0)))
       where
         room : held (keyIn (r .key)) (keysOf es) ≡ false → (t : Bool) → held (keyIn (r .key)) (keysOf es) ≡ t → t ≡ false → (not t && leb 1024 (length es)) ≡ false → length es < 1024
         room f true e h q = absurd (true≢false h)
