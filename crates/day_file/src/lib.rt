@@ -89,8 +89,7 @@ fn is_rows(count: u64, contents: &[u8], bodies: &[u64]) -> bool
     }
     let rise = entries::keys_rise(contents, count as usize);
     if rise {
-        let elements = rows::check_elements(bodies, 0);
-        return elements.number == 0;
+        return rows::scan::carries(bodies) < 1 << 63;
     }
     false
 }

@@ -18,8 +18,9 @@ pub fn or_carry(seen: u64, x: u64) -> u64
     seen | (x & (u64::MAX - sum))
 }
 
-// 2^63 or more just where an element is not below p.
-fn carries(row: &[u64]) -> u64
+// 2^63 or more just where an element is not below p. For rows that are longer than a cache, too: it reads
+// straight on.
+pub fn carries(row: &[u64]) -> u64
     ensures { λ r. ⌜ (r < 2 ^ 63 → Below p64 (now (row .entry))) ⌝ }
     ensures { λ r. ⌜ (Below p64 (now (row .entry)) → r < 2 ^ 63) ⌝ }
 {
