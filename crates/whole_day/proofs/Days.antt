@@ -10,9 +10,9 @@ use lib.Dec.{eqb}
 use borrow.Author.Tests.{eqb-true}
 use Rattle.field64.specs.Field.{p64}
 use Rattle.pine.specs.declared.PineParam.{PineParam}
-use Rattle.entries.specs.File.{Entry, keyIn, keysOf, entriesIn, isFile, FileOk, fileOf, mostReports, fresh, held, entryFor, added}
+use Rattle.entries.specs.File.{Entry, keyIn, keysOf, entriesIn, isFile, FileOk, fileOf, mostReports, fresh, held, entryFor, raised, added}
 use Rattle.entries.proofs.Files.{file-met, file-accepted, entries-of-file}
-use Rattle.entries.proofs.Adding.{added-ok}
+use Rattle.entries.proofs.Adding.{added-ok, length-placed}
 use Rattle.file_add.specs.Add.{addAnswer, newFile, addOf}
 use Rattle.file_add.proofs.Verdicts.{AddMet, add-met}
 use Rattle.correctness.specs.Tally.{FieldRow}
@@ -97,6 +97,21 @@ module _ (d : ℕ) (small : d ≤ 65536) where
   unfoldable pub through : List Entry → List Adding → List Entry
   through es [] = es
   through es (a ∷ calls) = through (cond (eqb (addAnswer (a .inputs) (a .key) (fileOf d es) (a .share) (length (a .second)) .number) 0) (added p64 d (a .key) (a .share) es) es) calls
+
+  -- each call brings one entry at most
+  added-few : (key share : List ℕ) (es : List Entry) → length (added p64 d key share es) ≤ length es + 1
+  unfolding added
+  added-few key share es = omega (arith, length-placed (raised p64 share (entryFor (fresh d key) es)) es)
+
+  pub through-few : (es : List Entry) (calls : List Adding) → length (through es calls) ≤ length es + length calls
+  unfolding through
+  through-few es [] = omega arith
+  through-few es (a ∷ calls) = go (eqb (addAnswer (a .inputs) (a .key) (fileOf d es) (a .share) (length (a .second)) .number) 0) (through-few (added p64 d (a .key) (a .share) es) calls) (through-few es calls)
+    where
+      go : (t : Bool) → length (through (added p64 d (a .key) (a .share) es) calls) ≤ length (added p64 d (a .key) (a .share) es) + length calls → length (through es calls) ≤ length es + length calls
+          → length (through (cond t (added p64 d (a .key) (a .share) es) es) calls) ≤ length es + length (a ∷ calls)
+      go true f g = omega (arith, added-few (a .key) (a .share) es)
+      go false f g = omega arith
 
   pub through-ok : (es : List Entry) → FileOk p64 d es → (calls : List Adding) → Keys calls → FileOk p64 d (through es calls)
   unfolding through

@@ -2,7 +2,8 @@
 use mathlib.Core.Path.{_≡_, refl, sym, ap, _∙_}
 use mathlib.Core.Bool.{Bool, true, false, cond, not}
 use mathlib.Core.List.{List, []}
-use Prim.Native.Nat.{ℕ, _+_, _^_, _≤_, _<_}
+use Prim.Native.Nat.{ℕ, _+_, _*_, _^_, _≤_, _<_, min}
+use native.Mathlib.Nat.{mul-le-mul-right}
 use native.Mathlib.Omega.{arith}
 use lib.ListN.{length, getD, drop}
 use lib.Seq.{take-at}
@@ -13,7 +14,7 @@ use Rattle.field64.specs.Field.{p64}
 use Rattle.pine.specs.declared.PineParam.{PineParam}
 use Rattle.pine.specs.Param.{Field64, paramAnswer}
 use Rattle.flp.proofs.Gradient.{room-64}
-use Rattle.entries.specs.File.{Entry, keyIn, keysOf, FileOk, fileOf, entriesIn, isFile, held, fresh, entryFor}
+use Rattle.entries.specs.File.{Entry, keyIn, keysOf, FileOk, fileOf, fileLen, entriesIn, isFile, held, fresh, entryFor}
 use Rattle.entries.proofs.Files.{file-met, entries-ok, file-of-entries, file-accepted, entries-of-file, length-file}
 use Rattle.day_file.proofs.Verdicts.{number, dimension-limits}
 use Rattle.day_file.proofs.Inverse.{write-read, read-write}
@@ -25,7 +26,7 @@ use Rattle.correctness.proofs.Correctness.{decodes}
 use Rattle.whole_day.specs.Day.{Key, Adding, Keys, accepts, afterOne, after, entryOf}
 use Rattle.whole_day.specs.Statements.{Inverses, dayFile, dayShares, KeyDay, Day, WholeDay, KeyDoubles, ExactSize, Files, Added, OneAdding}
 use Rattle.whole_day.proofs.Adding.{new-accepted, this-entry, other-entries, new-count}
-use Rattle.whole_day.proofs.Days.{through, through-ok, after-is}
+use Rattle.whole_day.proofs.Days.{through, through-few, through-ok, after-is}
 use Rattle.whole_day.proofs.Keys as keys
 use Rattle.whole_day.proofs.Sizes as sizes
 
@@ -90,6 +91,13 @@ module _ (d : ℕ) (small : d ≤ 65536) (calls : List Adding) (k : Keys calls) 
   entries : entriesIn d (dayFile d calls) ≡ final
   entries = ap (entriesIn d) is-file ∙ entries-of-file p64 d final ok (omega arith) narrow
 
+  within : length (dayFile d calls) ≤ fileLen d (min (length calls) 1024)
+  unfolding final
+  within =
+      let few : length (through d small [] calls) ≤ min (length calls) 1024 = omega (arith, ok .few, through-few d small [] calls) in
+      let m : length (through d small [] calls) * (12 + 8 * d) ≤ min (length calls) 1024 * (12 + 8 * d) = mul-le-mul-right (12 + 8 * d) few in
+      rw (is-file, length-file p64 d final ok (omega arith) narrow) (omega (arith, m))
+
   -- the body of the key g, as an aggregate
   body-is : (g : List ℕ) (h : Key g) → keys.holding d small g h calls k .row ≡ entryOf d g (dayFile d calls) .body
   unfolding final
@@ -108,6 +116,7 @@ module _ (d : ℕ) (small : d ≤ 65536) (calls : List Adding) (k : Keys calls) 
 pub whole-days : WholeDay
 whole-days d some small calls k = record {
   file = rw (is-file d small calls k) (file-accepted p64 d (final d small calls k) (ok d small calls k) (omega arith) (narrow d small calls k));
+  within = within d small calls k;
   key = key-day d small calls k;
 }
 

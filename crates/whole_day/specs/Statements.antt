@@ -1,5 +1,5 @@
 -- What holds of the day's file as a whole, over the definitions that the calls' contracts cite. Rows are lists of numbers: a row of bytes has numbers below 256. Assumes nothing.
-use Prim.Native.Nat.{ℕ, _+_, _/_, _≤_, _<_}
+use Prim.Native.Nat.{ℕ, _+_, _/_, _≤_, _<_, min}
 use mathlib.Core.Path.{_≡_}
 use mathlib.Core.Bool.{true, cond, not}
 use mathlib.Core.List.{List, [], map}
@@ -78,6 +78,8 @@ module _ (d : ℕ) (calls : List Adding) where
 
   pub record Day : Type 0 where
     pub file : isFile p64 d dayFile ≡ true
+    -- it is no longer than the greatest length after so many reports
+    pub within : length dayFile ≤ fileLen d (min (length calls) 1024)
     pub key : (g : List ℕ) → Key g → KeyDay g
 
 abbrev pub WholeDay : Type 0
