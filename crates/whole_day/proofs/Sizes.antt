@@ -27,7 +27,7 @@ use Rattle.file_size.specs.Size.{Report, reportAnswer, Day, day, dayOf, keysDay
 use Rattle.file_size.specs.Steps.{keyRules, reportsAt, withKey, Run, run, runOf, numbersIn}
 use Rattle.file_size.proofs.Steps.{inserted-split}
 use Rattle.file_size.proofs.Days.{numbersOf, SameRun, day-run, keys-run}
-use Rattle.whole_day.specs.Day.{among, different, fileDay, fileDayOf, ReportOk, ReportsOk, keyBytes}
+use Rattle.whole_day.specs.Day.{fileDay, fileDayOf, ReportOk, ReportsOk, keyBytes}
 
 -- ---- one call on the file of some entries
 
@@ -162,7 +162,15 @@ module _ (i : PineParam) (ok : paramAnswer Field64 i ≡ accepted) where
         let l : length (fileDayOf i (fileOf d []) rs .file) ≡ fileLen d (length (D .entries)) = rw (c .0) (length-file p64 d (D .entries) (c .1) small narrow) in
         rw (size-answer, first-passed (D .answer) accepted z, l, same-length z)
 
--- ---- the number of entries is the number of different keys
+-- ---- the number of entries is the number of different keys, as numbers
+
+abbrev pub amongNumbers : (k : ℕ) → List ℕ → Bool
+amongNumbers k [] = false
+amongNumbers k (l ∷ ks) = eqb l k || amongNumbers k ks
+
+unfoldable pub differentNumbers : (seen ks : List ℕ) → ℕ
+differentNumbers seen [] = 0
+differentNumbers seen (k ∷ ks) = cond (amongNumbers k seen) (differentNumbers seen ks) (suc (differentNumbers (k ∷ seen) ks))
 
 -- a key that is held already changes nothing
 inserted-held : (k : ℕ) (ks : List ℕ) → held k ks ≡ true → inserted k ks ≡ ks
@@ -236,8 +244,8 @@ length-inserted k (l ∷ ks) = go (ltb l k) (eqb l k) (length-inserted k ks)
     go false true r = omega arith
     go false false r = omega arith
 
-pub run-different : (most : ℕ) (ks rs ns seen : List ℕ) → ((x : ℕ) → among x seen ≡ held x ks) → runOf most ks rs ns .answer .number ≡ 0 → runOf most ks rs ns .count ≡ length ks + different seen ns
-unfolding runOf different
+pub run-different : (most : ℕ) (ks rs ns seen : List ℕ) → ((x : ℕ) → amongNumbers x seen ≡ held x ks) → runOf most ks rs ns .answer .number ≡ 0 → runOf most ks rs ns .count ≡ length ks + differentNumbers seen ns
+unfolding runOf differentNumbers
 run-different most ks rs [] seen f h = omega arith
 run-different most ks rs (k ∷ ns) seen f h = go (eqb (keyRules most k ks rs .number) 0) refl h (run-different most (withKey k ks ks k) (withKey k ks rs (reportsAt k ks rs + 1)) ns)
   where
@@ -246,15 +254,15 @@ run-different most ks rs (k ∷ ns) seen f h = go (eqb (keyRules most k ks rs .n
 
     go : (t : Bool) → eqb (keyRules most k ks rs .number) 0 ≡ t
         → cond t (runOf most (withKey k ks ks k) (withKey k ks rs (reportsAt k ks rs + 1)) ns) (run (keyRules most k ks rs) 0) .answer .number ≡ 0
-        → ((seen' : List ℕ) → ((x : ℕ) → among x seen' ≡ held x (withKey k ks ks k)) → runOf most (withKey k ks ks k) (withKey k ks rs (reportsAt k ks rs + 1)) ns .answer .number ≡ 0 → runOf most (withKey k ks ks k) (withKey k ks rs (reportsAt k ks rs + 1)) ns .count ≡ length (withKey k ks ks k) + different seen' ns)
-        → cond t (runOf most (withKey k ks ks k) (withKey k ks rs (reportsAt k ks rs + 1)) ns) (run (keyRules most k ks rs) 0) .count ≡ length ks + cond (among k seen) (different seen ns) (suc (different (k ∷ seen) ns))
+        → ((seen' : List ℕ) → ((x : ℕ) → amongNumbers x seen' ≡ held x (withKey k ks ks k)) → runOf most (withKey k ks ks k) (withKey k ks rs (reportsAt k ks rs + 1)) ns .answer .number ≡ 0 → runOf most (withKey k ks ks k) (withKey k ks rs (reportsAt k ks rs + 1)) ns .count ≡ length (withKey k ks ks k) + differentNumbers seen' ns)
+        → cond t (runOf most (withKey k ks ks k) (withKey k ks rs (reportsAt k ks rs + 1)) ns) (run (keyRules most k ks rs) 0) .count ≡ length ks + cond (amongNumbers k seen) (differentNumbers seen ns) (suc (differentNumbers (k ∷ seen) ns))
     go false e h r = absurd (eqb-false (keyRules most k ks rs .number) 0 e h)
     go true e h r = rw (f k) (by (held k ks) refl)
       where
         long : length (withKey k ks ks k) ≡ length ks + cond (held k ks) 0 1
         long = ap length W ∙ length-inserted k ks
 
-        by : (u : Bool) → held k ks ≡ u → runOf most (withKey k ks ks k) (withKey k ks rs (reportsAt k ks rs + 1)) ns .count ≡ length ks + cond u (different seen ns) (suc (different (k ∷ seen) ns))
+        by : (u : Bool) → held k ks ≡ u → runOf most (withKey k ks ks k) (withKey k ks rs (reportsAt k ks rs + 1)) ns .count ≡ length ks + cond u (differentNumbers seen ns) (suc (differentNumbers (k ∷ seen) ns))
         by true q =
             let s = r seen (λ x. f x ∙ ap (held x) (sym (W ∙ inserted-held k ks q))) h in
             let l : length (withKey k ks ks k) ≡ length ks + 0 = long ∙ ap (λ (v : Bool). length ks + cond v 0 1) q in
@@ -265,7 +273,7 @@ run-different most ks rs (k ∷ ns) seen f h = go (eqb (keyRules most k ks rs .n
             omega arith
 
 -- the size is 6 + D (12 + 8 d)
-pub size-different : (i : PineParam) (keys : List ℕ) → sizeAnswer mostReports i keys .number ≡ 0 → sizeOf i keys .len ≡ fileLen (i .dimension) (different [] (numbersIn (length keys / 8) keys))
+pub size-different : (i : PineParam) (keys : List ℕ) → sizeAnswer mostReports i keys .number ≡ 0 → sizeOf i keys .len ≡ fileLen (i .dimension) (differentNumbers [] (numbersIn (length keys / 8) keys))
 unfolding sizeAnswer sizeUpTo
 size-different i keys h =
     let P = paramAnswer Field64 i in
@@ -275,6 +283,6 @@ size-different i keys h =
     let b = both R (first X accepted) (a .1) in
     let z = both X accepted (b .1) .0 in
     let s = keys-run mostReports keys in
-    let n : length (keysDay mostReports keys .entries) ≡ 0 + different [] (numbersIn (length keys / 8) keys) = s .count z ∙ run-different mostReports [] [] (numbersIn (length keys / 8) keys) [] (λ x. refl) (ap number (sym (s .answer)) ∙ z) in
-    let m : length (keysDay mostReports keys .entries) ≡ different [] (numbersIn (length keys / 8) keys) = omega arith in
+    let n : length (keysDay mostReports keys .entries) ≡ 0 + differentNumbers [] (numbersIn (length keys / 8) keys) = s .count z ∙ run-different mostReports [] [] (numbersIn (length keys / 8) keys) [] (λ x. refl) (ap number (sym (s .answer)) ∙ z) in
+    let m : length (keysDay mostReports keys .entries) ≡ differentNumbers [] (numbersIn (length keys / 8) keys) = omega arith in
     rw (eq-eqb (first P (first R (first X accepted)) .number) 0 h, m)

@@ -29,6 +29,7 @@ use Rattle.whole_day.proofs.Adding.{new-accepted, this-entry, other-ent
 use Rattle.whole_day.proofs.Days.{through, through-few, through-ok, after-is}
 use Rattle.whole_day.proofs.Keys as keys
 use Rattle.whole_day.proofs.Sizes as sizes
+use Rattle.whole_day.proofs.Different as different
 
 pub inverses : Inverses
 inverses = record { read-then-write = write-read; write-then-read = read-write }
@@ -128,4 +129,4 @@ key-doubles i accepts left right k l g h reports q found long =
     (decodes Field64 (omega arith) room-64 i accepts (keys.holding d small g h left k) (keys.holding d small g h right l) (keys.holding-backed d small g h left k) (keys.holding-backed d small g h right l) reports (λ r. ap pos (q r)) found long)
 
 pub exact-size : ExactSize
-exact-size = record { refused = sizes.first-refusal; made = sizes.file-of-size; length-is = sizes.size-different }
+exact-size = record { refused = sizes.first-refusal; made = sizes.file-of-size; length-is = different.length-is }

@@ -89,11 +89,12 @@ keyBytes (r ∷ rs) = r .key ++ keyBytes rs
 
 -- ---- the number of different keys
 
-abbrev pub among : (k : ℕ) → List ℕ → Bool
+-- whether a key is among some, all its bytes compared
+abbrev pub among : (k : List ℕ) → List (List ℕ) → Bool
 among k [] = false
-among k (l ∷ ks) = eqb l k || among k ks
+among k (l ∷ ks) = eqRow l k || among k ks
 
 -- each counted where it comes first; seen are those that came before
-unfoldable pub different : (seen ks : List ℕ) → ℕ
+unfoldable pub different : (seen ks : List (List ℕ)) → ℕ
 different seen [] = 0
 different seen (k ∷ ks) = cond (among k seen) (different seen ks) (suc (different (k ∷ seen) ks))

@@ -15,8 +15,7 @@ use Rattle.rows.specs.Rows.{Below}
 use Rattle.rows.specs.Outcome.{outcome}
 use Rattle.entries.specs.File.{Entry, keyIn, valveIn, lessBytes, keysOf, fileOf, fileLen, FileOk, countIn, entriesIn, isFile, held, mostReports, raised}
 use Rattle.day_file.specs.Calls.{readAnswer, readOutcome, readOf, writeAnswer, writeOf, ofLen}
-use Rattle.file_size.specs.Size.{Report, sizeAnswer, sizeOf}
-use Rattle.file_size.specs.Steps.{numbersIn}
+use Rattle.file_size.specs.Size.{Report, keyList, sizeAnswer, sizeOf}
 use Rattle.vdaf.specs.Aggregates.{unshardOf}
 use Rattle.correctness.specs.Tally.{count, FieldRow, Each}
 use Rattle.correctness.specs.Correctness as C
@@ -103,4 +102,4 @@ pub record ExactSize : Type 0 where
       → (fileDayOf i (fileOf (i .dimension) []) rs .answer .number ≡ 0 → ⊥) → fileDayOf i (fileOf (i .dimension) []) rs .answer ≡ sizeAnswer mostReports i (keyBytes rs)
   pub made : (i : PineParam) → paramAnswer Field64 i ≡ accepted → (rs : List Report) → ReportsOk p64 (i .dimension) rs
       → fileDayOf i (fileOf (i .dimension) []) rs .answer .number ≡ 0 → sizeOf i (keyBytes rs) ≡ ofLen accepted (length (fileDayOf i (fileOf (i .dimension) []) rs .file))
-  pub length-is : (i : PineParam) (keys : List ℕ) → sizeAnswer mostReports i keys .number ≡ 0 → sizeOf i keys .len ≡ fileLen (i .dimension) (different [] (numbersIn (length keys / 8) keys))
+  pub length-is : (i : PineParam) (keys : List ℕ) → Below 256 keys → sizeAnswer mostReports i keys .number ≡ 0 → sizeOf i keys .len ≡ fileLen (i .dimension) (different [] (keyList (length keys / 8) keys))
