@@ -1,14 +1,14 @@
 -- What the verdict's steps give is adding's answer, and what an accepted adding has met. Assumes nothing.
-use mathlib.Core.Path.{_≡_, refl, sym, ap, ap₂, _∙_}
-use mathlib.Core.Bool.{Bool, true, false, cond, not, _&&_}
-use mathlib.Core.List.{List, [], _∷_}
-use Prim.Native.Nat.{ℕ, suc, _+_, _-_, _*_, _≤_, _<_}
+use mathlib.Core.Path.{_≡_, refl, sym, ap, _∙_}
+use mathlib.Core.Bool.{Bool, true, false, not, _&&_}
+use mathlib.Core.List.{List}
+use Prim.Native.Nat.{ℕ, _+_, _-_, _*_, _≤_, _<_}
 use native.Mathlib.Omega.{arith}
 use lib.ListN.{length}
 use lib.Dec.{leb, eqb}
 use borrow.Author.Tests.{eqb-false, leb-false}
 use Rattle.rules.specs.declared.Answer.{Answer}
-use Rattle.rules.specs.Rules.{answer, accepted, refuse, first, inOrder}
+use Rattle.rules.specs.Rules.{answer, accepted, first}
 use Rattle.rules.proofs.Chain.{first-refused, first-passed, first-assoc, refuse-last, passed, so, not-so}
 use Rattle.field64.specs.Field.{p64}
 use Rattle.pine.specs.declared.PineParam.{PineParam}
@@ -16,13 +16,12 @@ use Rattle.pine.specs.Param.{Field64, paramAnswer}
 use Rattle.rows.specs.Rows.{rowRule, elementsRule, Below}
 use Rattle.rows.proofs.Lengths.{row-right}
 use Rattle.rows.proofs.Elements.{elements-below}
-use Rattle.entries.specs.File.{Entry, keyIn, keysOf, countIn, contentsIn, bodiesIn, keysIn, entriesIn, mostReports, isFile, fresh, held, index, entryFor}
+use Rattle.entries.specs.File.{keyIn, keysOf, countIn, contentsIn, bodiesIn, keysIn, entriesIn, mostReports, isFile, fresh, held, index, entryFor}
 use Rattle.entries.proofs.Rows.{keys-from, length-from}
 use Rattle.entries.proofs.Files.{FileMet, file-met}
 use Rattle.entries.proofs.Splicing.{found-reports}
 use Rattle.layout.specs.Layout.{fileRule}
 use Rattle.day_file.proofs.Verdicts.{number, dimension-limits}
-use Rattle.file_add.specs.declared.Place.{Place}
 use Rattle.file_add.specs.Add.{roomRule, reportsRule, addRules, addAnswer}
 use Rattle.file_add.specs.Steps.{placeOf, placeIn, placeRules}
 

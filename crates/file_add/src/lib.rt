@@ -6,14 +6,13 @@ use rules::Answer;
 ghost use mathlib.Core.Path.{_≡_};
 ghost use mathlib.Core.Bool.{true, false, cond, not, _&&_};
 ghost use lib.Dec.{leb};
-ghost use mathlib.Core.List.{_++_};
 ghost use Prim.Native.Nat.{_+_, _-_, _*_, _≤_, _<_, _^_};
 ghost use lib.ListN.{length, take, drop};
 ghost use Rattle.rules.specs.Rules.{refuse, first};
 ghost use Rattle.field64.specs.Field.{p64};
 ghost use Rattle.rows.specs.Rows.{rowRule, elementsRule, Below};
 ghost use Rattle.octets.specs.Octets.{fromBytes, elementBytes, elementsIn, pasted, filled};
-ghost use Rattle.entries.specs.File.{keyIn, rising, keysOf, countIn, contentsIn, keysIn, entriesIn, isFile, fresh, held, entryFor, fileOf, added};
+ghost use Rattle.entries.specs.File.{keyIn, rising, countIn, keysIn, entriesIn, isFile, held, fileOf, added};
 ghost use Rattle.file_add.specs.Add.{addAnswer, addOutcome, addOf};
 ghost use Rattle.file_add.specs.Steps.{placeOf, placeIn, placeRules, contentsWith, bodyWith, bodiesWith, AddReady};
 

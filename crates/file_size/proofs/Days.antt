@@ -1,18 +1,15 @@
 -- A day by entries is the run of its keys: no share has a say in the answer or in the number of entries. Assumes nothing.
 use mathlib.Core.Path.{_≡_, refl, sym, ap, ap₂, _∙_}
-use mathlib.Core.Bool.{Bool, true, false, cond, not, _&&_}
+use mathlib.Core.Bool.{Bool, true, false, cond}
 use mathlib.Core.List.{List, [], _∷_, _++_, map}
-use Prim.Native.Nat.{ℕ, zero, suc, _+_, _-_, _*_, _/_, _^_, _≤_, _<_}
-use native.Mathlib.Omega.{arith}
+use Prim.Native.Nat.{ℕ, zero, suc, _+_, _-_, _/_}
 use lib.ListN.{length, getD, take, drop, length-map}
-use lib.Dec.{leb, ltb, eqb}
-use borrow.Author.Tests.{eq-eqb, ne-eqb, eqb-true, eqb-false}
-use Rattle.rules.specs.declared.Answer.{Answer}
-use Rattle.rules.specs.Rules.{answer, accepted, refuse, first}
+use lib.Dec.{ltb, eqb}
+use borrow.Author.Tests.{eqb-false}
+use Rattle.rules.specs.Rules.{answer}
 use Rattle.entries.specs.File.{Entry, keyIn, keyOf, keysOf, fresh, held, index, entryFor, placed, raised, added}
 use Rattle.entries.proofs.Walks.{heldOne, placed-split}
 use Rattle.entries.proofs.Adding.{found-key, keys-placed, inserted}
-use Rattle.file_add.specs.Add.{roomRule, reportsRule}
 use Rattle.file_size.specs.Size.{Report, reportAnswer, Day, day, dayOf, keyList, bare, keysDay}
 use Rattle.file_size.specs.Steps.{reportsAt, keyRules, withKey, Run, run, runOf, numbersIn}
 use Rattle.file_size.proofs.Steps.{inserted-split}

@@ -1,9 +1,8 @@
 -- What the call gives is its outcome. Assumes nothing.
-use mathlib.Core.Path.{_≡_, refl, sym, ap, ap₂, _∙_}
+use mathlib.Core.Path.{_≡_, refl, sym, ap, _∙_}
 use mathlib.Core.Bool.{Bool, true, false, cond}
 use mathlib.Core.List.{List, [], _∷_}
-use Prim.Native.Nat.{ℕ, _+_, _*_, _/_, _≤_, _<_}
-use native.Mathlib.Omega.{arith}
+use Prim.Native.Nat.{ℕ, _+_, _*_, _/_, _≤_}
 use lib.ListN.{length}
 use lib.Dec.{eqb}
 use borrow.Author.Tests.{eq-eqb, ne-eqb, eqb-false}
@@ -18,7 +17,7 @@ use Rattle.day_file.specs.Calls.{ofLen}
 use Rattle.day_file.proofs.Verdicts.{number, dimension-limits}
 use Rattle.file_size.specs.Size.{keysDay, sizeAnswer, sizeUpTo}
 use Rattle.file_size.specs.Steps.{keyRules, reportsAt, withKey, Run, run, runOf, numbersIn}
-use Rattle.file_size.proofs.Days.{SameRun, keys-run}
+use Rattle.file_size.proofs.Days.{keys-run}
 
 -- an answer of a run whose number is 0 is `accepted` itself
 run-accepted : (most : ℕ) (ks rs ns : List ℕ) → runOf most ks rs ns .answer .number ≡ 0 → runOf most ks rs ns .answer ≡ accepted

@@ -1,26 +1,25 @@
 -- Laws of counting keys: each step keeps what is held, and the steps give the run. Assumes nothing.
-use mathlib.Core.Path.{_≡_, refl, sym, ap, ap₂, _∙_}
-use mathlib.Core.Bool.{Bool, true, false, cond, not, _&&_, true≢false}
+use mathlib.Core.Path.{_≡_, refl, sym, ap, _∙_}
+use mathlib.Core.Bool.{Bool, true, false, cond}
 use mathlib.Core.List.{List, [], _∷_, _++_}
-use Prim.Native.Nat.{ℕ, zero, suc, _+_, _-_, _*_, _/_, _^_, _≤_, _<_}
+use Prim.Native.Nat.{ℕ, zero, suc, _+_, _-_, _*_, _≤_, _<_}
 use native.Mathlib.Nat.{add-zero}
 use native.Mathlib.Numerals.{add-one}
 use native.Mathlib.Omega.{arith}
-use lib.ListN.{length, getD, take, drop, set, length-set, drop-of-length-le, length-drop}
+use lib.ListN.{length, getD, take, drop, length-set, drop-of-length-le}
 use lib.Seq.{take-set-lt, set-split, split-at, getD-take, drop-cons, drop-drop, length-take-le}
 use lib.Dec.{leb, ltb, eqb}
 use borrow.Author.Tests.{lt-ltb, le-ltb, ltb-true, leb-false, eq-eqb, ne-eqb, eqb-true, eqb-false}
 use Rattle.rules.specs.declared.Answer.{Answer}
-use Rattle.rules.specs.Rules.{answer, accepted, refuse, first}
-use Rattle.rules.proofs.Chain.{refuse-last, not-so, first-refused, first-passed}
-use Rattle.rows.specs.Rows.{Below}
+use Rattle.rules.specs.Rules.{answer, accepted}
+use Rattle.rules.proofs.Chain.{refuse-last, not-so}
 use Rattle.rows.proofs.Elements.{below-append, below-take, below-drop, below-at}
-use Rattle.entries.specs.File.{keyIn, rising, held, index}
+use Rattle.entries.specs.File.{keyIn, held, index}
 use Rattle.entries.proofs.Walks.{index-fits}
 use Rattle.entries.proofs.Adding.{inserted, rising-inserted}
 use Rattle.entries.proofs.Files.{and-both}
 use Rattle.file_add.proofs.Places.{held-at}
-use Rattle.file_size.specs.Steps.{reportsAt, keyRules, withKey, run, runOf, numbersIn, moved, Again, Begun, Holding, Stepped}
+use Rattle.file_size.specs.Steps.{keyRules, withKey, run, runOf, numbersIn, Again, Begun, Holding, Stepped}
 use Rattle.file_size.proofs.Moved.{length-moved, moved-take}
 
 -- a key put in stands at its index

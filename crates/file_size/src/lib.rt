@@ -6,14 +6,14 @@ use rules::Answer;
 ghost use mathlib.Core.Path.{_≡_};
 ghost use mathlib.Core.Bool.{true};
 ghost use mathlib.Core.List.{[]};
-ghost use Prim.Native.Nat.{_+_, _*_, _/_, _^_, _≤_, _<_};
-ghost use lib.ListN.{length, getD, take, drop};
+ghost use Prim.Native.Nat.{_+_, _*_, _/_, _≤_, _<_};
+ghost use lib.ListN.{length, getD, take};
 ghost use Rattle.rules.specs.Rules.{first};
 ghost use Rattle.pine.specs.Param.{Field64, paramAnswer};
 ghost use Rattle.rows.specs.Rows.{rowRule};
-ghost use Rattle.entries.specs.File.{keyIn, rising, held, index};
+ghost use Rattle.entries.specs.File.{rising, held, index};
 ghost use Rattle.file_size.specs.Size.{sizeUpTo, sizeOf};
-ghost use Rattle.file_size.specs.Steps.{keyRules, reportsAt, withKey, run, runOf, numbersIn, moved, Again, Begun, Holding, Stepped};
+ghost use Rattle.file_size.specs.Steps.{run, runOf, numbersIn, moved, Again, Begun, Holding, Stepped};
 
 // How many keys and counts are held after a key, or the refusal that it meets.
 pub struct Step {

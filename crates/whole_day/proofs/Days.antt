@@ -1,22 +1,21 @@
 -- Any calls of adding on the file of some entries: each leaves the file of the entries with the report added, or the file as it was. Assumes nothing.
-use mathlib.Core.Path.{_≡_, refl, sym, ap, ap₂, subst, _∙_}
+use mathlib.Core.Path.{_≡_, refl, sym, ap, subst, _∙_}
 use mathlib.Core.Bool.{Bool, true, false, cond}
 use mathlib.Core.List.{List, [], _∷_, _++_}
-use Prim.Native.Nat.{ℕ, _+_, _*_, _^_, _≤_, _<_}
+use Prim.Native.Nat.{ℕ, _+_, _^_, _≤_, _<_}
 use native.Mathlib.Omega.{arith}
 use lib.ListN.{length, take, drop}
 use lib.Seq.{take-at}
 use lib.Dec.{eqb}
 use borrow.Author.Tests.{eqb-true}
 use Rattle.field64.specs.Field.{p64}
-use Rattle.pine.specs.declared.PineParam.{PineParam}
-use Rattle.entries.specs.File.{Entry, keyIn, keysOf, entriesIn, isFile, FileOk, fileOf, mostReports, fresh, held, entryFor, raised, added}
+use Rattle.entries.specs.File.{Entry, keyIn, keysOf, entriesIn, FileOk, fileOf, mostReports, fresh, held, entryFor, raised, added}
 use Rattle.entries.proofs.Files.{file-met, file-accepted, entries-of-file}
 use Rattle.entries.proofs.Adding.{added-ok, length-placed}
 use Rattle.file_add.specs.Add.{addAnswer, newFile, addOf}
 use Rattle.file_add.proofs.Verdicts.{AddMet, add-met}
 use Rattle.correctness.specs.Tally.{FieldRow}
-use Rattle.whole_day.specs.Day.{Key, Adding, Keys, given, accepts, afterOne, after}
+use Rattle.whole_day.specs.Day.{Key, Adding, Keys, accepts, afterOne, after}
 
 module _ (d : ℕ) (small : d ≤ 65536) where
   narrow : d < 2 ^ 32

@@ -2,28 +2,28 @@
 use mathlib.Core.Path.{_≡_, refl, sym, ap, ap₂, _∙_}
 use mathlib.Core.Bool.{Bool, true, false, cond, not, _&&_, _||_, true≢false}
 use mathlib.Core.List.{List, [], _∷_, _++_}
-use Prim.Native.Nat.{ℕ, _+_, _%_, _^_, _≤_, _<_}
+use Prim.Native.Nat.{ℕ, _+_, _%_, _≤_, _<_}
 use native.Mathlib.Omega.{arith}
-use lib.ListN.{length, getD, take, drop, replicate, length-drop, length-replicate, getD-replicate, take-append-drop}
+use lib.ListN.{length, take, drop, replicate, length-drop, length-replicate, getD-replicate, take-append-drop}
 use lib.Seq.{take-all, length-take-le}
 use lib.IntN.{pos}
 use lib.Dec.{ltb, eqb}
-use borrow.Author.Tests.{eqb-true, eqb-false, eq-eqb, ne-eqb, ltb-true, ltb-false, le-ltb}
+use borrow.Author.Tests.{eqb-true, eq-eqb, ne-eqb}
 use Rattle.field64.specs.Field.{p64, addMod}
-use Rattle.field64.proofs.Modular.{modular, add-both}
-use Rattle.rows.specs.Rows.{Below, addRows}
+use Rattle.field64.proofs.Modular.{modular}
+use Rattle.rows.specs.Rows.{addRows}
 use Rattle.rows.proofs.Elements.{below-take, below-drop}
 use Rattle.rows.proofs.Added.{length-addRows, getD-addRows}
 use Rattle.octets.specs.Octets.{toBytes}
 use Rattle.octets.proofs.Bytes.{to-from-long}
-use Rattle.entries.specs.File.{Entry, keyIn, valveIn, lessBytes, keyOf, keysOf, FileOk, fileOf, fresh, held, entryFor, placed, raised, added}
+use Rattle.entries.specs.File.{Entry, keyIn, valveIn, lessBytes, keysOf, FileOk, fileOf, fresh, held, entryFor, placed, raised, added}
 use Rattle.entries.proofs.Adding.{found-key, found-placed, found-other, fresh-ok, ok-found, inserted, keys-placed}
 use Rattle.entries.proofs.Keys.{key-injective, key-order}
 use Rattle.file_add.specs.Add.{addAnswer}
 use Rattle.correctness.specs.Tally.{eqRow, count, Aggregate, FieldRow, Each}
 use Rattle.correctness.proofs.Counts.{eqRow-true, eqRow-refl, sumOver}
 use Rattle.correctness.proofs.Tally.{at, Backed}
-use Rattle.whole_day.specs.Day.{Key, Adding, Keys, accepts, sharesOf}
+use Rattle.whole_day.specs.Day.{Key, Adding, Keys, sharesOf}
 use Rattle.whole_day.proofs.Days.{share-row, next, next-ok, accepts-is, after-one, through, through-ok}
 use Rattle.whole_day.proofs.Sizes.{held-inserted}
 

@@ -1,32 +1,32 @@
 -- The exact size: adding reports in order to a file begun empty is refused first exactly where and as the call says, and otherwise yields a file of the length that it gives; that length is 6 + D (12 + 8 d), D the number of different keys. Assumes nothing.
-use mathlib.Core.Path.{_≡_, refl, sym, ap, ap₂, _∙_}
+use mathlib.Core.Path.{_≡_, refl, sym, ap, _∙_}
 use mathlib.Core.Bool.{Bool, true, false, cond, not, _&&_, _||_, true≢false}
-use mathlib.Core.List.{List, [], _∷_, _++_, map}
-use Prim.Native.Nat.{ℕ, zero, suc, _+_, _-_, _*_, _/_, _^_, _≤_, _<_}
+use mathlib.Core.List.{List, [], _∷_, _++_}
+use Prim.Native.Nat.{ℕ, suc, _+_, _-_, _*_, _/_, _^_, _≤_, _<_}
 use native.Mathlib.Omega.{arith}
 use lib.ListN.{length, take, drop, replicate, length-replicate, length-append}
 use lib.Seq.{take-at, drop-at}
 use lib.Dec.{leb, ltb, eqb}
-use borrow.Author.Tests.{eq-eqb, ne-eqb, eqb-true, eqb-false, lt-ltb, le-ltb, ltb-true, ltb-false, leb-false}
+use borrow.Author.Tests.{eq-eqb, ne-eqb, eqb-true, eqb-false, le-ltb, ltb-true, ltb-false, leb-false}
 use Rattle.rules.specs.declared.Answer.{Answer}
-use Rattle.rules.specs.Rules.{answer, accepted, refuse, first, inOrder}
+use Rattle.rules.specs.Rules.{answer, accepted, first}
 use Rattle.rules.proofs.Chain.{refuse-last, both, not-so, first-refused, first-passed}
 use Rattle.field64.specs.Field.{p64}
 use Rattle.pine.specs.declared.PineParam.{PineParam}
 use Rattle.pine.specs.Param.{Field64, paramAnswer}
-use Rattle.rows.specs.Rows.{rowRule, Below}
+use Rattle.rows.specs.Rows.{rowRule}
 use Rattle.rows.proofs.Lengths.{right-row}
 use Rattle.rows.proofs.Elements.{right-elements}
-use Rattle.entries.specs.File.{Entry, keyIn, keysOf, rising, fileOf, fileLen, FileOk, entriesIn, isFile, mostReports, held, index, fresh, entryFor, added}
-use Rattle.entries.proofs.Files.{file-accepted, entries-of-file, length-file, and-both}
-use Rattle.entries.proofs.Adding.{added-ok, inserted, rising-inserted}
+use Rattle.entries.specs.File.{Entry, keyIn, keysOf, fileOf, fileLen, FileOk, entriesIn, mostReports, held, index, fresh, entryFor, added}
+use Rattle.entries.proofs.Files.{file-accepted, entries-of-file, length-file}
+use Rattle.entries.proofs.Adding.{added-ok, inserted}
 use Rattle.day_file.specs.Calls.{ofLen}
 use Rattle.day_file.proofs.Verdicts.{number, dimension-limits}
 use Rattle.file_add.specs.Add.{roomRule, reportsRule, addAnswer, newFile, addOutcome, addOf}
 use Rattle.file_size.specs.Size.{Report, reportAnswer, Day, day, dayOf, keysDay, sizeAnswer, sizeUpTo, sizeOf}
 use Rattle.file_size.specs.Steps.{keyRules, reportsAt, withKey, Run, run, runOf, numbersIn}
 use Rattle.file_size.proofs.Steps.{inserted-split}
-use Rattle.file_size.proofs.Days.{numbersOf, SameRun, day-run, keys-run}
+use Rattle.file_size.proofs.Days.{numbersOf, day-run, keys-run}
 use Rattle.whole_day.specs.Day.{fileDay, fileDayOf, ReportOk, ReportsOk, keyBytes}
 
 -- ---- one call on the file of some entries

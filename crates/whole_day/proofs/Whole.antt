@@ -1,6 +1,6 @@
 -- The statements of `specs/Statements.antt` hold. Assumes nothing.
 use mathlib.Core.Path.{_≡_, refl, sym, ap, _∙_}
-use mathlib.Core.Bool.{Bool, true, false, cond, not}
+use mathlib.Core.Bool.{Bool, true, false, cond}
 use mathlib.Core.List.{List, []}
 use Prim.Native.Nat.{ℕ, _+_, _*_, _^_, _≤_, _<_, min}
 use native.Mathlib.Nat.{mul-le-mul-right}
@@ -8,23 +8,20 @@ use native.Mathlib.Omega.{arith}
 use lib.ListN.{length, getD, drop}
 use lib.Seq.{take-at}
 use lib.IntN.{pos}
-use lib.Dec.{eqb}
 use borrow.Author.Tests.{eqb-true}
 use Rattle.field64.specs.Field.{p64}
-use Rattle.pine.specs.declared.PineParam.{PineParam}
 use Rattle.pine.specs.Param.{Field64, paramAnswer}
 use Rattle.flp.proofs.Gradient.{room-64}
-use Rattle.entries.specs.File.{Entry, keyIn, keysOf, FileOk, fileOf, fileLen, entriesIn, isFile, held, fresh, entryFor}
+use Rattle.entries.specs.File.{Entry, keyIn, keysOf, FileOk, fileOf, fileLen, entriesIn, held, fresh, entryFor}
 use Rattle.entries.proofs.Files.{file-met, entries-ok, file-of-entries, file-accepted, entries-of-file, length-file}
 use Rattle.day_file.proofs.Verdicts.{number, dimension-limits}
 use Rattle.day_file.proofs.Inverse.{write-read, read-write}
 use Rattle.file_add.specs.Add.{addAnswer, newFile, addOf}
 use Rattle.rows.specs.Rows.{Below}
-use Rattle.correctness.specs.Tally.{Aggregate}
-use Rattle.correctness.proofs.Tally.{Backed, of-rows}
+use Rattle.correctness.proofs.Tally.{of-rows}
 use Rattle.correctness.proofs.Correctness.{decodes}
-use Rattle.whole_day.specs.Day.{Key, Adding, Keys, accepts, afterOne, after, entryOf}
-use Rattle.whole_day.specs.Statements.{Inverses, dayFile, dayShares, KeyDay, Day, WholeDay, KeyDoubles, ExactSize, Files, Added, OneAdding}
+use Rattle.whole_day.specs.Day.{Key, Adding, Keys, accepts, afterOne, entryOf}
+use Rattle.whole_day.specs.Statements.{Inverses, dayFile, dayShares, KeyDay, WholeDay, KeyDoubles, ExactSize, Files, Added, OneAdding}
 use Rattle.whole_day.proofs.Adding.{new-accepted, this-entry, other-entries, new-count}
 use Rattle.whole_day.proofs.Days.{through, through-few, through-ok, after-is}
 use Rattle.whole_day.proofs.Keys as keys

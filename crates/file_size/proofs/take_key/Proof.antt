@@ -1,7 +1,7 @@
 -- `file_size::take_key` meets its contract. Assumes nothing.
-use mathlib.Core.Path.{_≡_, sym, _∙_}
+use mathlib.Core.Path.{sym, _∙_}
 use native.Mathlib.Omega.{arith}
-use lib.ListN.{length, take}
+use lib.ListN.{take}
 use lib.Seq.{length-take-le}
 use Rattle.file_size.proofs.Steps.{held-inside, index-below, count-fits, stepped-again, stepped-begun}
 use borrow.Author.Needs.{needs}
