@@ -26,14 +26,16 @@ use Rattle.rows.proofs.Added.{take-add, length-addRows, getD-addRows, add-below
 use Rattle.flp.specs.Tests.{testsOf, runTestsOf}
 use Rattle.flp.proofs.Gradient.{Room, room-64}
 use Rattle.flp.proofs.Valid.{accepted-inputs, long-enough, measurement-at, results-cut, left-alone, right-alone, main-cut, norm-cut}
-use Rattle.vdaf.specs.Aggregates.{decodedSums}
+use Rattle.vdaf.specs.Aggregates.{decodedSums, unshardOf}
 use Rattle.vdaf.proofs.Accepted.{unshards}
 use Rattle.vdaf.proofs.Decoded.{length-decodedSums, getD-decodedSums}
-use Rattle.correctness.specs.Tally.{run, FieldRow, Each, Joined}
+use Rattle.correctness.specs.Tally.{Aggregate, run, FieldRow, Each, Joined}
 use Rattle.correctness.proofs.Cut.{Cut, shares, StandsFor, centredNumber, numbersSum}
 use Rattle.correctness.specs.Correctness.{sumℤ}
 use Rattle.correctness.specs.Correctness as C
 use Rattle.correctness.specs.Correctness.{nearestOver, Correctness}
+use Rattle.correctness.proofs.Tally.{Backed, backed}
+use Rattle.correctness.proofs.Report.{read}
 use Rattle.correctness.proofs.Aggregation.{aggregation, taken-as-added}
 
 each-of : {A : Type 0} {P : A → Type 0} → ((x : A) → P x) → (xs : List A) → Each P xs
@@ -161,10 +163,28 @@ module _ (F : Field) (i : PineParam) (positive : 0 < F .p) (rs : List (C.Report 
       ∙ nearest-is (F .p) (getD (addRows (F .p) x y) j 0) (i .«frac_bits») (below-at (F .p) (addRows (F .p) x y) (add-below (F .p) positive x y) j l)
       ∙ ap (nearestOver (i .«frac_bits»)) (e ∙ cut-sum F i rooms j rs)
 
+-- two aggregates whose tallies joined are the shares of the reports
+pub decodes : (F : Field) → 0 < F .p → ((i : PineParam) → paramAnswer F i .number ≡ 0 → Room (F .p) i) → (i : PineParam) → paramAnswer F i ≡ accepted → (A B : Aggregate) → Backed (F .p) (i .dimension) A → Backed (F .p) (i .dimension) B
+    → (rs : List (C.Report F i)) → Joined (A .tally) (B .tally) (C.sharesOf F i rs) → (found : List Float) → length found ≡ i .dimension → C.Decodes F i rs (unshardOf F i (A .row) (B .row) found)
+decodes F positive rooms i ok A B f g rs q found l =
+    let d = i .dimension in
+    let a : FieldRow (F .p) d (A .row) = f .row in
+    let b : FieldRow (F .p) d (B .row) = g .row in
+    let q2 : Joined (A .tally) (B .tally) (shares (cuts F i (rooms i) rs)) = rw (cut-shares F i (rooms i)) q in
+    let at : (j : ℕ) → j < d → natAbs (C.floorsSum F i j rs) ≤ (F .p - 1) / 2 → getD (decodedSums (F .p) (i .«frac_bits») (A .row) (B .row)) j plusZero ≡ nearestOver (i .«frac_bits») (C.floorsSum F i j rs) = λ j h w. decoded-at F i positive rs (rooms i) (A .row) (B .row) a b j h (read (F .p) d positive A B f g (cuts F i (rooms i) rs) q2 j h (cut-stands F i (rooms i) j h rs) (rw cut-sum w)) in
+    let u = unshards F i (A .row) (B .row) found (record { param = ok; left-long = a .long; right-long = b .long; left-below = a .below; right-below = b .below }) l in
+    rw u (record {
+      accepts = refl;
+      long = length-decodedSums (F .p) (i .«frac_bits») (A .row) (B .row) (a .long ∙ sym (b .long)) ∙ a .long;
+      at = at;
+      zero = λ j h z. at j h (rw z (omega arith)) ∙ rw z (nearest-zero (i .«frac_bits»));
+    })
+
 pub correctness : (F : Field) → 0 < F .p → ((i : PineParam) → paramAnswer F i .number ≡ 0 → Room (F .p) i) → Correctness F
 correctness F positive rooms i ok s b calls rs =
     let d = i .dimension in
     let g = aggregation F positive d s b calls (cuts F i (rooms i) rs) in
+    let f = backed F d positive s b calls in
     record {
       tests = each-of (tests-add F i (rooms i)) rs;
       circuits = each-of (circuits-zero F i (rooms i)) rs;
@@ -173,20 +193,7 @@ correctness F positive rooms i ok s b calls rs =
       accumulate-answers = g .accumulate-answers;
       merge-answers = g .merge-answers;
       subtract-answers = taken-as-added F d;
-      decoded = λ k m q found l.
-          let A = run F s calls k in
-          let B = run F s calls m in
-          let a : FieldRow (F .p) d (A .row) = g .tallied k .row in
-          let b : FieldRow (F .p) d (B .row) = g .tallied m .row in
-          let q2 : Joined (A .tally) (B .tally) (shares (cuts F i (rooms i) rs)) = rw (cut-shares F i (rooms i)) q in
-          let at : (j : ℕ) → j < d → natAbs (C.floorsSum F i j rs) ≤ (F .p - 1) / 2 → getD (decodedSums (F .p) (i .«frac_bits») (A .row) (B .row)) j plusZero ≡ nearestOver (i .«frac_bits») (C.floorsSum F i j rs) = λ j h w. decoded-at F i positive rs (rooms i) (A .row) (B .row) a b j h (g .reads k m q2 j h (cut-stands F i (rooms i) j h rs) (rw cut-sum w)) in
-          let u = unshards F i (A .row) (B .row) found (record { param = ok; left-long = a .long; right-long = b .long; left-below = a .below; right-below = b .below }) l in
-          rw u (record {
-            accepts = refl;
-            long = length-decodedSums (F .p) (i .«frac_bits») (A .row) (B .row) (a .long ∙ sym (b .long)) ∙ a .long;
-            at = at;
-            zero = λ j h z. at j h (rw z (omega arith)) ∙ rw z (nearest-zero (i .«frac_bits»));
-          });
+      decoded = λ k m. decodes F positive rooms i ok (run F s calls k) (run F s calls m) (f k) (f m) rs;
     }
 
 pub correctness-64 : Correctness Field64

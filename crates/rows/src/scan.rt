@@ -10,7 +10,7 @@ ghost use Rattle.rows.specs.Joined.{orRows};
 // What was seen so far, and x: 2^63 or more just where seen is, or where x is not below p. Adding 2^32 - 1
 // to such an x wraps, and of the two numbers only x has its highest bit. By bits alone, so that a loop
 // runs on vectors.
-fn or_carry(seen: u64, x: u64) -> u64
+pub fn or_carry(seen: u64, x: u64) -> u64
     ensures { λ r. ⌜ (r < 2 ^ 63 → (seen < 2 ^ 63) × (x < p64)) ⌝ }
     ensures { λ r. ⌜ ((seen < 2 ^ 63) × (x < p64) → r < 2 ^ 63) ⌝ }
 {
@@ -18,8 +18,9 @@ fn or_carry(seen: u64, x: u64) -> u64
     seen | (x & (u64::MAX - sum))
 }
 
-// 2^63 or more just where an element is not below p.
-fn carries(row: &[u64]) -> u64
+// 2^63 or more just where an element is not below p. For rows that are longer than a cache, too: it reads
+// straight on.
+pub fn carries(row: &[u64]) -> u64
     ensures { λ r. ⌜ (r < 2 ^ 63 → Below p64 (now (row .entry))) ⌝ }
     ensures { λ r. ⌜ (Below p64 (now (row .entry)) → r < 2 ^ 63) ⌝ }
 {

@@ -1,8 +1,8 @@
 // What every call answers: the number and the place of the first rule broken, or 0 and 0. Here stand
 // the rules' numbers, by name, and the order by which the first refusal decides. The table of the rules
 // is in docs/PINE.md, "The rules"; what each says is defined where it applies: in the specs/ of pine (1
-// to 6, and 19), doubles (4, and 8 and 12 of one number), rows (7 and 12), flp (8 to 11, 13, 17, 20 and 21) and
-// load_report (22).
+// to 6, and 19), doubles (4, and 8 and 12 of one number), rows (7 and 12), flp (8 to 11, 13, 17, 20 and
+// 21), layout (14), file_add (15 and 16) and load_report (22).
 ghost use mathlib.Core.Path.{_≡_};
 ghost use mathlib.Core.Bool.{cond};
 ghost use lib.Dec.{eqb};
@@ -34,6 +34,12 @@ pub const WR_TEST: u64 = 11;
 pub const ELEMENT: u64 = 12;
 
 pub const NUM_SHARES: u64 = 13;
+// Bytes that are no file of this dimension, or a count and rows that make none.
+pub const FILE_LAYOUT: u64 = 14;
+// A new key for a file that holds as many as it may.
+pub const FILE_FULL: u64 = 15;
+// A count of reports that is already the largest.
+pub const REPORT_COUNT: u64 = 16;
 // The floor of a coordinate lies beyond the field's limit.
 pub const FLOOR: u64 = 17;
 // A number of the multiplier alpha is 0.
