@@ -4,8 +4,10 @@ use answers::print;
 use libc::STDIN_FILENO;
 
 mod aggregates;
+mod bytes;
 mod cases;
 mod circuits;
+mod files;
 mod inputs;
 mod reports;
 mod vectors;
