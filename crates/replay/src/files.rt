@@ -196,12 +196,13 @@ pub fn max(line: &[u8], c: Cursor, out: &mut [u8], at: usize) -> usize {
     let read = read_param(line, c);
     let reports = words::decimal(line, read.next);
     let n = reports.value;
-    let ends = words::ends(line, reports.next);
-    if ends && n <= 4294967295 {
-        answer_len(out, at, day_file::file_max(read.param, n as u32))
-    } else {
-        bad(out, at)
+    if !words::ends(line, reports.next) {
+        return bad(out, at);
     }
+    if 4294967295 < n {
+        return bad(out, at);
+    }
+    answer_len(out, at, day_file::file_max(read.param, n as u32))
 }
 
 fn size_in(line: &[u8], c: Cursor, out: &mut [u8], at: usize, keys: &mut [u8]) -> usize {
@@ -257,11 +258,13 @@ fn answer_add(
 
 // The second row's length, or one that nobody lends.
 fn second_len(dimension: u64, old: u64) -> u64 {
-    if dimension <= 65536 && old <= 262144 {
-        old + (12 + 8 * dimension)
-    } else {
-        u64::MAX
+    if 65536 < dimension {
+        return u64::MAX;
     }
+    if 262144 < old {
+        return u64::MAX;
+    }
+    old + (12 + 8 * dimension)
 }
 
 fn add_of(
