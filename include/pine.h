@@ -6,7 +6,7 @@
  * has each of these, and what the randomness must be; "A report, step by step" says what the words here mean.
  *
  * Each call is the function of the same name in the Rattle crates doubles, params, wr_tests, encode,
- * validity and vdaf, or locate_gradient and so on in parts, with the same contract: for ANY numbers and any
+ * validity, vdaf, day_file, file_add and file_size, or locate_gradient and so on in parts, with the same contract: for ANY numbers and any
  * bytes in its rows it ends, reads and writes inside its rows only, and gives exactly what the definitions in
  * crates/.../specs say, refusals included. docs/PINE.md has these in words, docs/C.md the tables of rows and
  * refusals, and how to link.
@@ -15,20 +15,21 @@
  * elements, in that order. Derive the lengths by pine_derive.
  *
  * Answers. number 0 and place 0: accepted, the arguments were in order. Otherwise number is the first rule
- * broken, in the order 1 to 6, 19, 7, 13, 12, 8 with 17, 9, 21, 10, 11 or 20 in its place, and place is where
- * (enum PineRule; pine_rule_text has each in words). A refused call leaves every row as it was. An accepted call
+ * broken, in the order 1 to 6, 19, 7, 14, 13, 12, 15, 16, 8 with 17, 9, 21, 10, 11 or 20 in its place, and place is
+ * where (enum PineRule; pine_rule_text has each in words). A refused call leaves every row as it was. An accepted call
  * writes every element of its output rows and reads none of what they held before (of an aggregate that is added
- * to or taken from: argument and result). A compiler that can warns where an answer is dropped.
+ * to or taken from: argument and result; of a file that is added to, the second row is written up to the new length,
+ * and no further). A compiler that can warns where an answer is dropped.
  *
  * What the caller has to see to, for no proof can:
- * - A pointer is valid for its length, and aligned for its type (8 bytes, 1 for the stream). Give an
+ * - A pointer is valid for its length, and aligned for its type (8 bytes, 1 for a row of bytes). Give an
  *   empty row (length 0) a pointer that is not null, too.
  * - A row that is written overlaps no other row of the call, and nobody else reads or writes it
  *   meanwhile. Rows that are only read may be the same row, and nobody writes them meanwhile.
  * - Every element of a row that is read has been written once. Output rows may be uninitialised.
  * - The floating-point environment is C's default: round to nearest, exceptions masked, subnormals kept
  *   (neither flush-to-zero nor denormals-are-zero, which gcc's -ffast-math turns on in main programs).
- * - The stack has room: docs/C.md has the measured need of each call, at most 7440 bytes.
+ * - The stack has room: docs/C.md has the measured need of each call, at most 16560 bytes.
  *
  * No call keeps state, allocates, locks, does input or output, or fails otherwise than by its answer:
  * any number of threads may call at once. Nothing depends on a NaN's payload or sign: a NaN is refused,
@@ -72,6 +73,12 @@ extern "C" {
 #define PINE_MAX_NUM_WR_TESTS UINT64_C(256)
 #define PINE_MAX_NUM_SHARES UINT64_C(255)
 
+/* A day's file: the most entries, and the bytes before them, of an entry's contents, and of its key. */
+#define PINE_MAX_FILE_ENTRIES 1024
+#define PINE_FILE_HEADER_LEN 6
+#define PINE_FILE_ENTRY_LEN 12
+#define PINE_FILE_KEY_LEN 8
+
 /* The joint randomness of pine_valid: r1, r2, r3. */
 #define PINE_JOINT_RAND_LEN 3
 
@@ -93,6 +100,11 @@ enum PineRule {
     PINE_ELEMENT = 12,           /* not below p; place: its index over the rows of elements that are read, joined
                                   * in order (pine_element_place) */
     PINE_NUM_SHARES = 13,        /* 0 or above its limit; place 0 */
+    PINE_FILE_LAYOUT = 14,       /* bytes are no file of this dimension, or a count, contents and bodies make none;
+                                  * place 0 */
+    PINE_FILE_FULL = 15,         /* a new key for a file that holds PINE_MAX_FILE_ENTRIES; place 0 */
+    PINE_REPORT_COUNT = 16,      /* a key's count of reports is already 4294967295; place: the entry's index in the
+                                  * file, from 0 */
     PINE_FLOOR = 17,             /* a coordinate's floor is below -(p - 1) / 2 or above (p - 1) / 2; place: its
                                   * index in the gradient. Of 8 and 17 the lower index is answered */
     PINE_ALPHA = 19,             /* alpha_numerator or alpha_denominator is 0; place 0 */
@@ -121,6 +133,9 @@ static inline const char *pine_rule_text(uint64_t number) {
     case PINE_WR_TEST: return "a wraparound test is out of range";
     case PINE_ELEMENT: return "an element is not below the modulus";
     case PINE_NUM_SHARES: return "num_shares is 0 or above its limit";
+    case PINE_FILE_LAYOUT: return "the bytes or rows are no file of this dimension";
+    case PINE_FILE_FULL: return "the file has no room for a new key";
+    case PINE_REPORT_COUNT: return "the key has as many reports as it can count";
     case PINE_FLOOR: return "a coordinate's floor is out of the field's limits";
     case PINE_ALPHA: return "alpha_numerator or alpha_denominator is 0";
     case PINE_WR_TESTS_IN_RANGE: return "too few wraparound tests are in range";
@@ -144,7 +159,8 @@ typedef struct PineElementPlace {
 
 /* The element behind a place of rule 12, from the lengths that the call was given. Two rows are joined, rows 1 and
  * 2, in pine_valid, pine_accumulate, pine_merge, pine_subtract, pine_unmerge and pine_unshard. Of
- * pine_run_wr_tests, pine_valid_sq_norm_equal and the three parts it is row 1 alone: row2_len is 0. */
+ * pine_run_wr_tests, pine_valid_sq_norm_equal and the three parts it is row 1 alone: row2_len is 0. Of pine_file_add
+ * the place is an index in the share itself. */
 static inline PineElementPlace pine_element_place(uint64_t place, size_t row1_len, size_t row2_len) {
     PineElementPlace found = {0, 0};
     if (place < row1_len) {
@@ -284,6 +300,23 @@ typedef struct PinePart {
     uint64_t len;
 } PinePart;
 
+/* A key of a day's file: the controller's address, six bytes, then the valve, two bytes, low byte first. */
+typedef struct PineFileKey {
+    uint8_t bytes[8];
+} PineFileKey;
+
+static inline PineFileKey pine_file_key(const uint8_t address[6], uint16_t valve) {
+    PineFileKey key = {{address[0], address[1], address[2], address[3], address[4], address[5],
+                        (uint8_t)(valve & 255), (uint8_t)(valve >> 8)}};
+    return key;
+}
+
+/* A file's length in bytes. Beside a refusal it is 0. */
+typedef struct PineFileLen {
+    PineAnswer answer;
+    uint64_t len;
+} PineFileLen;
+
 /* ---- parameters */
 
 /* Rules 1 to 6, 19. */
@@ -384,6 +417,47 @@ PINE_MUST_USE PineAnswer pine_unshard(PineParam param,
                                       const uint64_t *right, size_t right_len,
                                       double *decoded, size_t decoded_len);
 
+/* ---- the day's file: a server's aggregates by controller and valve, in one row of bytes
+ *
+ * All numbers low byte first: the count of entries (2 bytes, 0 to 1024), d (4 bytes); then the contents, 12 bytes an
+ * entry: the controller's address (6), the valve (2), the count of reports (4); then the bodies in the same order, d
+ * elements of 8 bytes each: an aggregate. Entries rise strictly by the address, its bytes compared from the first on,
+ * then by the valve as a number. A file begun empty is what pine_file_write makes of a count of 0. It has no checksum,
+ * and nothing says who wrote it. */
+
+/* Splits a file (row 1, of any length) into its contents (row 2, 12 bytes an entry; written), without the six bytes
+ * before them, and the elements of its bodies (row 3, d an entry; written). The entries are counted by the file's
+ * first two bytes, 0 if it has fewer. Rules 1 to 6, 19, 7 (rows 2 and 3), 14. */
+PINE_MUST_USE PineAnswer pine_file_read(PineParam param,
+                                        const uint8_t *file, size_t file_len,
+                                        uint8_t *contents, size_t contents_len,
+                                        uint64_t *bodies, size_t bodies_len);
+
+/* Writes a file (row 3, 6 + count * (12 + 8 d); written) of count entries, from contents (row 1, 12 bytes an entry) and
+ * bodies (row 2, d elements an entry). Rules 1 to 6, 19, 7, 14: an element not below p is 14 here. */
+PINE_MUST_USE PineAnswer pine_file_write(PineParam param, uint64_t count,
+                                         const uint8_t *contents, size_t contents_len,
+                                         const uint64_t *bodies, size_t bodies_len,
+                                         uint8_t *file, size_t file_len);
+
+/* The greatest length that a file begun empty can have after so many added reports: 6 + min(reports, 1024)(12 + 8 d).
+ * Rules 1 to 6, 19. */
+PINE_MUST_USE PineFileLen pine_file_max(PineParam param, uint32_t reports);
+
+/* Adds a report of one key to a file: the key's count is one more, and the share (row 2, d) is added to its body; a new
+ * key starts from no reports and d zeros. No other entry or body changes. The old file (row 1, of any length) is only
+ * read. The new one is written into the second row (row 3), which has the old one's length and 12 + 8 d bytes more, and
+ * its length is given; the bytes past it stay as they were. Rules 1 to 6, 19, 7 (rows 2 and 3), 14, 12, 15, 16. */
+PINE_MUST_USE PineFileLen pine_file_add(PineParam param, PineFileKey key,
+                                        const uint8_t *old, size_t old_len,
+                                        const uint64_t *share, size_t share_len,
+                                        uint8_t *second, size_t second_len);
+
+/* The exact length of the file that reports of these keys (row 1, 8 bytes a report, in the order in which they will be
+ * added) make of one begun empty, or the refusal that adding would meet first. Rules 1 to 6, 19, 7 for a length that
+ * is no multiple of 8, 15 or 16. */
+PINE_MUST_USE PineFileLen pine_file_size(PineParam param, const uint8_t *keys, size_t keys_len);
+
 #ifdef __cplusplus
 }
 #endif
@@ -411,6 +485,8 @@ PINE_ASSERT(sizeof(PineCoordinate) == 24);
 PINE_ASSERT(sizeof(PineDecoded) == 24);
 PINE_ASSERT(sizeof(PineCircuit) == 32);
 PINE_ASSERT(sizeof(PinePart) == 32);
+PINE_ASSERT(sizeof(PineFileKey) == 8);
+PINE_ASSERT(sizeof(PineFileLen) == 24);
 #undef PINE_ASSERT
 
 #endif

@@ -3,8 +3,8 @@
 A case is a line to ask, and what must be answered to it:
 
     OK                       it is accepted: the original's own `ok ..` line, whatever that is
-    ok ..                    the same, worked out here: of subtract, unmerge, a part of a full vector and a load, which the
-                             original has no call for, and of a case with later inputs
+    ok ..                    the same, worked out here: of subtract, unmerge, a part of a full vector, a load and the day's
+                             file, which the original has no call for, and of a case with later inputs
     refused NUMBER PLACE     it is refused, by the first rule broken
     bad                      the line is malformed
     nothing                  a blank line or a comment, which has no answer
@@ -21,6 +21,7 @@ import random
 
 import aggregates
 import circuits
+import files
 import load
 import multiplier
 import parts
@@ -31,7 +32,7 @@ import true_length
 from common import BAD, NONE, OK, TOP, Case, below
 
 KINDS = {**singles.KINDS, **reports.KINDS, **circuits.KINDS, **parts.KINDS, **aggregates.KINDS, **multiplier.KINDS,
-         **test_rule.KINDS, **true_length.KINDS, **load.KINDS}
+         **test_rule.KINDS, **true_length.KINDS, **load.KINDS, **files.KINDS}
 
 
 # Malformed lines, and lines without an answer

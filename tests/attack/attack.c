@@ -7,8 +7,9 @@
  * nothing outside its rows; a refused call leaves every row as it was, and its values are 0; an accepted
  * one leaves the rows that it only reads; made again with other bytes in the rows that it writes, it
  * gives the same answer and the same rows; elements given are below p, doubles are no NaN; a report's tests are
- * written by the rule that the inputs name, and with the switch on its true squared norm is within the bound. Every
- * report that is encoded is also cut in two and taken through all the other calls.
+ * written by the rule that the inputs name, and with the switch on its true squared norm is within the bound; files and
+ * their lengths are those that file_step.h works out. Every report that is encoded is also cut in two and taken through
+ * all the other calls.
  *
  * With -DMEMCHECK, under valgrind, the rows that are written are handed over as uninitialised, and what
  * comes back must be initialised throughout. */
@@ -41,17 +42,18 @@
 
 enum Kind {
     CHECK_PARAM, DERIVE, WR_TEST_BOUND, F64_TO_FIELD, FIELD_TO_F64, ENCODE, RUN_WR_TESTS, VALID, VALID_EQUAL,
-    GRADIENT_PART, CHECKED_PART, RESULTS_PART, EMPTY_AGGREGATE, ACCUMULATE, MERGE, SUBTRACT, UNMERGE, UNSHARD, KINDS
+    GRADIENT_PART, CHECKED_PART, RESULTS_PART, EMPTY_AGGREGATE, ACCUMULATE, MERGE, SUBTRACT, UNMERGE, UNSHARD,
+    FILE_READ, FILE_WRITE, FILE_MAX, FILE_ADD, FILE_SIZE, KINDS
 };
 static const char *const names[KINDS] = {
     "check_param", "derive", "wr_test_bound", "f64_to_field", "field_to_f64", "encode_with_wr_joint_rand",
     "run_wr_tests", "valid",
     "valid_sq_norm_equal", "gradient_part", "checked_part", "results_part", "empty_aggregate", "accumulate", "merge",
-    "subtract", "unmerge", "unshard"
+    "subtract", "unmerge", "unshard", "file_read", "file_write", "file_max", "file_add", "file_size"
 };
 enum { LAST_RULE = PINE_TRUE_SQ_NORM };
 static int is_rule(uint64_t n) {
-    return n <= PINE_NUM_SHARES || n == PINE_FLOOR || (PINE_ALPHA <= n && n <= LAST_RULE);
+    return n <= PINE_FLOOR || (PINE_ALPHA <= n && n <= LAST_RULE);
 }
 static unsigned long long seed, made, counts[KINDS][LAST_RULE + 1], reports;
 static volatile enum Kind kind;
@@ -502,6 +504,10 @@ done:
     free(report_stream);
 }
 
+/* ---- a day's file */
+
+#include "file_step.h"
+
 /* ---- one step: a call or a report */
 
 typedef PineAnswer OnTwoRows(PineParam param, uint64_t *agg, size_t agg_len, const uint64_t *other, size_t other_len);
@@ -697,6 +703,14 @@ static void step(void) {
                 fail("gives a NaN");
             }
         }
+        break;
+    }
+    case FILE_READ:
+    case FILE_WRITE:
+    case FILE_MAX:
+    case FILE_ADD:
+    case FILE_SIZE: {
+        file_step(p, d);
         break;
     }
     default:

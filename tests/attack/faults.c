@@ -108,3 +108,50 @@ PineAnswer __wrap_pine_encode_with_wr_joint_rand(PineParam p, const double *g, s
     }
     return a;
 }
+
+PineFileLen __real_pine_file_add(PineParam p, PineFileKey key, const uint8_t *old, size_t on, const uint64_t *s, size_t sn,
+                                 uint8_t *second, size_t n);
+PineFileLen __wrap_pine_file_add(PineParam p, PineFileKey key, const uint8_t *old, size_t on, const uint64_t *s, size_t sn,
+                                 uint8_t *second, size_t n);
+PineFileLen __real_pine_file_size(PineParam p, const uint8_t *keys, size_t n);
+PineFileLen __wrap_pine_file_size(PineParam p, const uint8_t *keys, size_t n);
+PineAnswer __real_pine_file_read(PineParam p, const uint8_t *f, size_t fn, uint8_t *c, size_t cn, uint64_t *b, size_t bn);
+PineAnswer __wrap_pine_file_read(PineParam p, const uint8_t *f, size_t fn, uint8_t *c, size_t cn, uint64_t *b, size_t bn);
+
+/* 17: zeros past the new file; 18: takes keys that differ in the valve's high byte for one; 19: counts a report twice */
+PineFileLen __wrap_pine_file_add(PineParam p, PineFileKey key, const uint8_t *old, size_t on, const uint64_t *s, size_t sn,
+                                 uint8_t *second, size_t n) {
+    if (FAULT == 18) {
+        key.bytes[7] = 0;
+    }
+    PineFileLen given = __real_pine_file_add(p, key, old, on, s, sn, second, n);
+    if (FAULT == 17 && given.answer.number == 0) {
+        for (size_t k = (size_t)given.len; k < n; k++) {
+            second[k] = 0;
+        }
+    }
+    if (FAULT == 19 && given.answer.number == 0) {
+        second[6 + 8]++;
+    }
+    return given;
+}
+
+/* 20: repeated keys counted twice */
+PineFileLen __wrap_pine_file_size(PineParam p, const uint8_t *keys, size_t n) {
+    PineFileLen given = __real_pine_file_size(p, keys, n);
+    if (FAULT == 20 && given.answer.number == 0) {
+        given.len = 6 + n / 8 * (12 + 8 * p.dimension);
+    }
+    return given;
+}
+
+/* 21: reads the bodies in the opposite order */
+PineAnswer __wrap_pine_file_read(PineParam p, const uint8_t *f, size_t fn, uint8_t *c, size_t cn, uint64_t *b, size_t bn) {
+    PineAnswer a = __real_pine_file_read(p, f, fn, c, cn, b, bn);
+    for (size_t k = 0; FAULT == 21 && a.number == 0 && k < bn / 2; k++) {
+        uint64_t x = b[k];
+        b[k] = b[bn - 1 - k];
+        b[bn - 1 - k] = x;
+    }
+    return a;
+}

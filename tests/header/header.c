@@ -17,10 +17,10 @@ static void check(int holds, const char *what) {
 
 /* Every rule has a text of its own, and every other number the same one. */
 static void texts(void) {
-    static const uint64_t rules[] = {0, 1, 2, 3, 4, 5, 6, 7, 8, 9, 10, 11, 12, 13, 17, 19, 20, 21, 22};
-    static const uint64_t others[] = {14, 15, 16, 18, 23, UINT64_C(1) << 32, UINT64_MAX};
+    static const uint64_t rules[] = {0, 1, 2, 3, 4, 5, 6, 7, 8, 9, 10, 11, 12, 13, 14, 15, 16, 17, 19, 20, 21, 22};
+    static const uint64_t others[] = {18, 23, UINT64_C(1) << 32, UINT64_MAX};
     const size_t count = sizeof rules / sizeof *rules;
-    const char *const none = pine_rule_text(14);
+    const char *const none = pine_rule_text(18);
     for (size_t i = 0; i < count; i++) {
         const char *text = pine_rule_text(rules[i]);
         check(text[0] != '\0' && strcmp(text, none) != 0, "a rule has no text");
@@ -70,8 +70,26 @@ static void validity(void) {
     check(pine_is_valid(zero) && !pine_is_valid(one), "pine_is_valid reads another value");
 }
 
+/* A key's bytes are the address and then the valve, low byte first, and adding takes it by value. */
+static void keys(void) {
+    static const uint8_t address[6] = {1, 2, 3, 4, 5, 6};
+    const PineParam param = pine_param_standard(4096, 1, 8, 16, 2, 10, 10);
+    const PineFileKey key = pine_file_key(address, 0x0807);
+    uint8_t empty[PINE_FILE_HEADER_LEN], file[PINE_FILE_HEADER_LEN + PINE_FILE_ENTRY_LEN + 8];
+    const uint64_t share = 9;
+    PineAnswer begun = pine_file_write(param, 0, empty, 0, &share, 0, empty, sizeof empty);
+    check(begun.number == PINE_ACCEPTED, "no file is begun empty");
+    PineFileLen added = pine_file_add(param, key, empty, sizeof empty, &share, 1, file, sizeof file);
+    check(added.answer.number == PINE_ACCEPTED && added.len == sizeof file, "no report is added");
+    for (uint8_t k = 0; k < PINE_FILE_KEY_LEN; k++) {
+        check(key.bytes[k] == k + 1 && file[PINE_FILE_HEADER_LEN + k] == k + 1, "a key has other bytes");
+    }
+    check(file[14] == 1 && file[18] == 9, "the entry is another");
+}
+
 int main(void) {
     texts();
+    keys();
     places();
     validity();
     return failed;

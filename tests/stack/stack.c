@@ -21,7 +21,8 @@ static PineDerived derived;
 static size_t d, tests, encoded, full, stream_len;
 static double *gradient, *decoded;
 static uint64_t *elements, *measurement, *results, *other, joint_rand[PINE_JOINT_RAND_LEN] = {3, 5, 7};
-static uint8_t *stream;
+static uint8_t *stream, *file, *second, keys[8 * 1100];
+static size_t file_len;
 static uint64_t taken;
 
 /* Below this frame the call's begins. */
@@ -70,6 +71,15 @@ static void subtract(void) { taken += pine_subtract(param, other, d, elements, d
 static void unmerge(void) { taken += pine_unmerge(param, other, d, elements, d).number; }
 static void unshard(void) { taken += pine_unshard(param, elements, d, other, d, decoded, d).number; }
 
+static void file_read(void) { taken += pine_file_read(param, file, file_len, keys, 12, other, d).number; }
+static void file_write(void) { taken += pine_file_write(param, 1, keys, 12, elements, d, file, file_len).number; }
+static void file_max(void) { taken += pine_file_max(param, 7).len; }
+static void file_add(void) {
+    PineFileKey key = {{1, 2, 3, 4, 5, 6, 7, (uint8_t)(d % 2)}};
+    taken += pine_file_add(param, key, file, file_len, elements, d, second, file_len + 12 + 8 * d).len;
+}
+static void file_size(void) { taken += pine_file_size(param, keys, sizeof keys - 8 * (d % 100)).len; }
+
 static const struct {
     const char *name;
     void (*call)(void);
@@ -92,6 +102,11 @@ static const struct {
     {"subtract", subtract},
     {"unmerge", unmerge},
     {"unshard", unshard},
+    {"file_write", file_write},
+    {"file_read", file_read},
+    {"file_max", file_max},
+    {"file_add", file_add},
+    {"file_size", file_size},
 };
 enum { CALLS = sizeof calls / sizeof *calls };
 
@@ -117,12 +132,16 @@ int main(void) {
                 elements = (uint64_t *)calloc(d, 8), other = (uint64_t *)calloc(d, 8);
                 measurement = (uint64_t *)calloc(full, 8), results = (uint64_t *)calloc(tests, 8);
                 stream = (uint8_t *)calloc(stream_len, 1);
+                file_len = 18 + 8 * d, file = (uint8_t *)calloc(file_len, 1), second = (uint8_t *)calloc(2 * file_len, 1);
                 for (size_t i = 0; i < d; i++) {
                     gradient[i] = (double)(i % 3) / 4;
                     elements[i] = i * i;
                 }
                 for (size_t i = 0; i < stream_len; i++) {
                     stream[i] = (uint8_t)(i * 37);
+                }
+                for (size_t i = 0; i < sizeof keys; i++) { /* 1100 keys, of which as many differ */
+                    keys[i] = (uint8_t)(i % 8 < 6 ? 1 + i % 8 : i % 8 == 6 ? i / 8 : i / 2048);
                 }
                 /* refused by 8 and 12, by 4, by 7 */
                 if (wrong == 1) {
@@ -138,6 +157,7 @@ int main(void) {
                     most[c] = used > most[c] ? used : most[c];
                 }
                 free(gradient), free(decoded), free(elements), free(other), free(measurement), free(results), free(stream);
+                free(file), free(second);
             }
         }
     }

@@ -48,7 +48,7 @@ impl Circuit {
     }
 }
 
-fn result(answer: Answer) -> Result<(), Error> {
+pub(crate) fn result(answer: Answer) -> Result<(), Error> {
     Error::of(answer.number, answer.place)
 }
 

@@ -19,8 +19,8 @@ pub struct Error {
 
 macro_rules! rules {
     ($($(#[$doc:meta])* $name:ident = $number:literal: $sentence:literal,)*) => {
-        /// The rules. A call tests its rules in one order and answers with the first that is broken: 1 to 6, 19, 7, 13,
-        /// 12, 8 with 17, 9, 21, 10, 11 or 20. docs/PINE.md of the project, "The rules", has the table.
+        /// The rules. A call tests its rules in one order and answers with the first that is broken: 1 to 6, 19, 7, 14,
+        /// 13, 12, 15, 16, 8 with 17, 9, 21, 10, 11 or 20. docs/PINE.md of the project, "The rules", has the table.
         #[derive(Clone, Copy, Debug, PartialEq, Eq, Hash)]
         #[non_exhaustive]
         pub enum Rule {
@@ -78,9 +78,15 @@ rules! {
     SqNorm = 10: "the squared norm is above its bound",
     /// By [`WrTestRule::Every`](crate::WrTestRule::Every). The place is the test, from 0. Another stream may do.
     WrTest = 11: "a wraparound test's result is out of range",
-    /// The place is its index over the rows of elements that are read, joined in order.
+    /// The place is its index over the rows of elements that are read, joined in order; of a share that is added to a
+    /// file, its index in the share.
     Element = 12: "an element is not below p",
     NumShares = 13: "num_shares is not from 1 to 255",
+    /// A file that is read or added to, or the rows that a file is to be written from.
+    FileLayout = 14: "the bytes or rows are no file of this dimension",
+    FileFull = 15: "the file holds 1024 keys, and this is a new one",
+    /// The place is the entry's index in the file, from 0.
+    ReportCount = 16: "the key's count of reports is already 4294967295",
     /// The place is its index; of this rule and [`Rule::Coordinate`] the lower index is answered.
     Floor = 17: "the floor of a coordinate is beyond (p - 1) / 2 either way",
     Alpha = 19: "alpha_numerator or alpha_denominator is 0",
@@ -115,6 +121,7 @@ impl fmt::Display for Error {
             Rule::WrTest => write!(f, ", test {place}"),
             Rule::Element => write!(f, ", element {place} of the rows read"),
             Rule::WrTestsInRange => write!(f, ", {place} in range"),
+            Rule::ReportCount => write!(f, ", entry {place}"),
             Rule::Other(_) => write!(f, ", place {place}"),
             _ => Ok(()),
         }?;

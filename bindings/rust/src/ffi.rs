@@ -80,6 +80,20 @@ pub struct Part {
     pub len: u64,
 }
 
+/// `PineFileKey` of the header: eight bytes.
+#[repr(C)]
+pub struct FileKey {
+    pub bytes: [u8; 8],
+}
+
+const _: () = assert!(size_of::<FileKey>() == 8 && align_of::<FileKey>() == 1);
+
+#[repr(C)]
+pub struct FileLen {
+    pub answer: Answer,
+    pub len: u64,
+}
+
 /// A struct of the header as the tests hold it to the header's text: its name there, its size, and of each field the
 /// name, the type and the offset.
 #[cfg(test)]
@@ -155,6 +169,7 @@ layouts! {
     Decoded is "PineDecoded", 24: answer: Answer = 0, value: f64 = 16;
     Circuit is "PineCircuit", 32: answer: Answer = 0, value: u64 = 16, gadget_calls: u64 = 24;
     Part is "PinePart", 32: answer: Answer = 0, start: u64 = 16, len: u64 = 24;
+    FileLen is "PineFileLen", 24: answer: Answer = 0, len: u64 = 16;
 }
 
 // a row's length is a size_t there, and the lengths that are derived are 64-bit numbers
@@ -241,4 +256,35 @@ extern "C" {
         decoded: *mut f64,
         decoded_len: usize,
     ) -> Answer;
+    pub fn pine_file_read(
+        param: Inputs,
+        file: *const u8,
+        file_len: usize,
+        contents: *mut u8,
+        contents_len: usize,
+        bodies: *mut u64,
+        bodies_len: usize,
+    ) -> Answer;
+    pub fn pine_file_write(
+        param: Inputs,
+        count: u64,
+        contents: *const u8,
+        contents_len: usize,
+        bodies: *const u64,
+        bodies_len: usize,
+        file: *mut u8,
+        file_len: usize,
+    ) -> Answer;
+    pub fn pine_file_max(param: Inputs, reports: u32) -> FileLen;
+    pub fn pine_file_add(
+        param: Inputs,
+        key: FileKey,
+        old: *const u8,
+        old_len: usize,
+        share: *const u64,
+        share_len: usize,
+        second: *mut u8,
+        second_len: usize,
+    ) -> FileLen;
+    pub fn pine_file_size(param: Inputs, keys: *const u8, keys_len: usize) -> FileLen;
 }

@@ -2,7 +2,10 @@
 extern crate std;
 
 use crate::ffi::LAYOUTS;
-use crate::{Error, Rule, FIELD_MODULUS, JOINT_RAND_LEN};
+use crate::{
+    Error, Rule, FIELD_MODULUS, FILE_ENTRY_LEN, FILE_HEADER_LEN, FILE_KEY_LEN, JOINT_RAND_LEN,
+    MAX_FILE_ENTRIES,
+};
 use std::format;
 use std::string::{String, ToString};
 use std::vec::Vec;
@@ -79,7 +82,7 @@ fn every_rule_has_the_headers_number() {
 
 #[test]
 fn an_unknown_number_is_kept() {
-    for number in [14, 18, 23, u64::MAX] {
+    for number in [18, 23, u64::MAX] {
         let refusal = Error::of(number, 5).unwrap_err();
         assert_eq!(refusal.rule, Rule::Other(number));
         assert_eq!(refusal.rule.number(), number);
@@ -98,4 +101,15 @@ fn the_constants_are_the_headers() {
         "#define PINE_FIELD_MODULUS UINT64_C({FIELD_MODULUS:#x})"
     )));
     assert!(text.contains(&format!("#define PINE_JOINT_RAND_LEN {JOINT_RAND_LEN}")));
+    for (name, number) in [
+        ("MAX_FILE_ENTRIES", MAX_FILE_ENTRIES),
+        ("FILE_HEADER_LEN", FILE_HEADER_LEN),
+        ("FILE_ENTRY_LEN", FILE_ENTRY_LEN),
+        ("FILE_KEY_LEN", FILE_KEY_LEN),
+    ] {
+        assert!(
+            text.contains(&format!("#define PINE_{name} {number}\n")),
+            "{name}"
+        );
+    }
 }

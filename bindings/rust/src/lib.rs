@@ -7,6 +7,8 @@
 //!
 //! [`Pine`] holds inputs that were tested once, and has the calls as methods, over rows that say what they are
 //! ([`Share`], [`Aggregate`] and so on). The same calls stand beside it as functions over the inputs and plain slices.
+//! A server that keeps its aggregates by controller and valve has them in one file: `DayFile` (feature `alloc`) grows
+//! as reports are added to it, and [`file_add`] and its siblings do the same over the caller's rows.
 //!
 #![cfg_attr(feature = "alloc", doc = "```")]
 #![cfg_attr(not(feature = "alloc"), doc = "```ignore")]
@@ -70,6 +72,7 @@ extern crate alloc;
 mod calls;
 mod error;
 mod ffi;
+mod file;
 #[cfg(test)]
 mod header;
 mod param;
@@ -82,14 +85,32 @@ pub use calls::{
     unmerge, unshard, valid, valid_sq_norm_equal, Circuit,
 };
 pub use error::{Error, Rule};
+pub use file::{file_add, file_max, file_read, file_size, file_write, FileKey};
+#[cfg(feature = "alloc")]
+pub use file::{DayFile, FileEntry, FileRows};
 pub use param::{Derived, Lengths, PineParam, Record, WrTestRule};
 #[cfg(feature = "alloc")]
 pub use pine::Encoded;
 pub use pine::Pine;
-pub use rows::{Aggregate, Full, FullShare, Gradient, Measurement, Results, Share};
+pub use rows::{
+    Aggregate, FileBodies, FileBytes, FileContents, Full, FullShare, Gradient, Measurement,
+    Results, Share,
+};
 
 /// p, the modulus of Field64.
 pub const FIELD_MODULUS: u64 = 0xffff_ffff_0000_0001;
 
 /// How many elements of joint randomness [`valid`](crate::valid()) takes: r1, r2, r3.
 pub const JOINT_RAND_LEN: usize = 3;
+
+/// The most entries of a day's file.
+pub const MAX_FILE_ENTRIES: usize = 1024;
+
+/// The bytes of a day's file before its contents.
+pub const FILE_HEADER_LEN: usize = 6;
+
+/// The bytes of an entry's contents in a day's file.
+pub const FILE_ENTRY_LEN: usize = 12;
+
+/// The bytes of a key.
+pub const FILE_KEY_LEN: usize = 8;

@@ -119,3 +119,15 @@ row! {
     /// The sum of shares, modulo p: dimension field numbers. An aggregate share, in the VDAF draft's words.
     Aggregate of u64
 }
+row! {
+    /// A day's file, or what may be one: bytes.
+    FileBytes of u8
+}
+row! {
+    /// The contents of a day's file: 12 bytes an entry, its key and its count of reports.
+    FileContents of u8
+}
+row! {
+    /// The bodies of a day's file, in the entries' order: dimension field numbers an entry, an aggregate.
+    FileBodies of u64
+}

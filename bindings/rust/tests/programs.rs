@@ -150,6 +150,58 @@ fn the_servers_add_what_is_valid() {
     );
 }
 
+#[cfg(feature = "alloc")]
+#[test]
+fn a_file_is_listed() {
+    use jihmeto_pine::{FileKey, Pine, PineParam, Share, FIELD_MODULUS};
+    let folder = fresh(Path::new(env!("CARGO_TARGET_TMPDIR")).join("list"));
+    let pine = Pine::new(PineParam::standard(4096, 2, 8, 16, 2, 10, 10)).unwrap();
+    let key = |address, valve| FileKey { address, valve };
+    let (one, two) = ([2, 0, 0, 0, 0, 9], [2, 0, 0, 0, 0, 10]);
+    let mut files = [pine.day_file().unwrap(), pine.day_file().unwrap()];
+    for (key, x) in [(key(two, 7), 128), (key(one, 7), 384), (key(one, 7), 1)] {
+        files[0].add(key, &Share::new([5, x])).unwrap();
+        files[1]
+            .add(key, &Share::new([FIELD_MODULUS - 5, x]))
+            .unwrap();
+    }
+    files[0].add(key(one, 300), &Share::new([0, 0])).unwrap();
+    files[1].add(key(two, 7), &Share::new([0, 0])).unwrap();
+    let names = ["left", "right"].map(|name| folder.join(name));
+    for (name, file) in names.iter().zip(&files) {
+        fs::write(name, file.bytes()).unwrap();
+    }
+    let [left, right] = names.each_ref().map(|name| name.to_str().unwrap());
+    let raw = said(&example(&["list", "--", left]));
+    assert_eq!(
+        raw.lines().collect::<Vec<_>>(),
+        [
+            "3 entries of dimension 2",
+            "address            valve     reports  elements, in hexadecimal",
+            "02:00:00:00:00:09      7           2  000000000000000a 0000000000000181",
+            "02:00:00:00:00:09    300           1  0000000000000000 0000000000000000",
+            "02:00:00:00:00:0a      7           1  0000000000000005 0000000000000080",
+        ]
+    );
+    let sums = said(&example(&["list", "--", left, right, "8"]));
+    assert_eq!(
+        sums.lines().skip(1).collect::<Vec<_>>(),
+        [
+            "address            valve     reports  decoded sums",
+            "02:00:00:00:00:09      7           2  0 3.0078125",
+            "02:00:00:00:00:09    300           1  not in the other file",
+            "02:00:00:00:00:0a      7        1, 2  not the same reports",
+        ]
+    );
+    fs::write(&names[1], &files[1].bytes()[1..]).unwrap();
+    let refused = example(&["list", "--", left, right, "8"]);
+    assert!(!refused.status.success());
+    assert_eq!(
+        text(&refused.stderr),
+        format!("list: {right}: the bytes or rows are no file of this dimension (rule 14)\n")
+    );
+}
+
 #[test]
 fn the_archive_is_found_where_the_documentation_says() {
     let root = fresh(Path::new(env!("CARGO_TARGET_TMPDIR")).join("archive"));

@@ -2,6 +2,7 @@
 use crate::aggregates;
 use crate::aggregates::Call;
 use crate::circuits;
+use crate::files;
 use crate::inputs::read_later;
 use crate::inputs::read_param;
 use crate::loads;
@@ -161,6 +162,26 @@ fn of_aggregates(name: &[u8], line: &[u8], c: Cursor, out: &mut [u8], at: usize)
     of_withdrawals(name, line, c, out, at)
 }
 
+// The commands on a day's file, and those above.
+fn of_files(name: &[u8], line: &[u8], c: Cursor, out: &mut [u8], at: usize) -> usize {
+    if check::same(name, b"fileread") {
+        return files::read(line, c, out, at);
+    }
+    if check::same(name, b"filewrite") {
+        return files::write(line, c, out, at);
+    }
+    if check::same(name, b"filemax") {
+        return files::max(line, c, out, at);
+    }
+    if check::same(name, b"fileadd") {
+        return files::add(line, c, out, at);
+    }
+    if check::same(name, b"filesize") {
+        return files::size(line, c, out, at);
+    }
+    of_aggregates(name, line, c, out, at)
+}
+
 // Answers a case: the line from a cursor on.
 fn answer_case(line: &[u8], case: Cursor, out: &mut [u8], at: usize) -> usize {
     let w = words::next_word(line, case);
@@ -180,7 +201,7 @@ fn answer_case(line: &[u8], case: Cursor, out: &mut [u8], at: usize) -> usize {
     if check::same(name, b"decode") {
         return decode(line, c, out, at);
     }
-    of_aggregates(name, line, c, out, at)
+    of_files(name, line, c, out, at)
 }
 
 // Answers a line.

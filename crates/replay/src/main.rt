@@ -7,6 +7,7 @@ mod aggregates;
 mod bytes;
 mod cases;
 mod circuits;
+mod files;
 mod inputs;
 mod loads;
 mod reports;
