@@ -2,7 +2,7 @@
 extern crate std;
 
 use crate::ffi::LAYOUTS;
-use crate::{Error, Rule, FIELD_MODULUS, JOINT_RAND_LEN};
+use crate::{Error, Rule, FIELD_MODULUS, JOINT_RAND_LEN, SEED_LEN};
 use std::format;
 use std::string::{String, ToString};
 use std::vec::Vec;
@@ -98,4 +98,5 @@ fn the_constants_are_the_headers() {
         "#define PINE_FIELD_MODULUS UINT64_C({FIELD_MODULUS:#x})"
     )));
     assert!(text.contains(&format!("#define PINE_JOINT_RAND_LEN {JOINT_RAND_LEN}")));
+    assert!(text.contains(&format!("#define PINE_SEED_LEN {SEED_LEN}")));
 }
