@@ -29,7 +29,7 @@
  * - Every element of a row that is read has been written once. Output rows may be uninitialised.
  * - The floating-point environment is C's default: round to nearest, exceptions masked, subnormals kept
  *   (neither flush-to-zero nor denormals-are-zero, which gcc's -ffast-math turns on in main programs).
- * - The stack has room: docs/C.md has the measured need of each call, at most 16560 bytes.
+ * - The stack has room: docs/C.md has the measured need of each call, at most 30672 bytes.
  *
  * No call keeps state, allocates, locks, does input or output, or fails otherwise than by its answer:
  * any number of threads may call at once. Nothing depends on a NaN's payload or sign: a NaN is refused,
@@ -81,6 +81,9 @@ extern "C" {
 
 /* The joint randomness of pine_valid: r1, r2, r3. */
 #define PINE_JOINT_RAND_LEN 3
+
+/* The bytes of a seed. */
+#define PINE_SEED_LEN 16
 
 /* What number says, and place beside it. */
 enum PineRule {
@@ -159,8 +162,8 @@ typedef struct PineElementPlace {
 
 /* The element behind a place of rule 12, from the lengths that the call was given. Two rows are joined, rows 1 and
  * 2, in pine_valid, pine_accumulate, pine_merge, pine_subtract, pine_unmerge and pine_unshard. Of
- * pine_run_wr_tests, pine_valid_sq_norm_equal and the three parts it is row 1 alone: row2_len is 0. Of pine_file_add
- * the place is an index in the share itself. */
+ * pine_run_wr_tests, pine_run_wr_tests_seed, pine_valid_sq_norm_equal and the three parts it is row 1 alone:
+ * row2_len is 0. Of pine_file_add the place is an index in the share itself. */
 static inline PineElementPlace pine_element_place(uint64_t place, size_t row1_len, size_t row2_len) {
     PineElementPlace found = {0, 0};
     if (place < row1_len) {
@@ -338,7 +341,13 @@ PINE_MUST_USE PineCoordinate pine_f64_to_field(double x, uint64_t frac_bits);
  * place 0. */
 PINE_MUST_USE PineDecoded pine_field_to_f64(uint64_t y, uint64_t frac_bits);
 
-/* ---- a report */
+/* ---- a report
+ *
+ * The bytes of the wraparound tests come as a stream, or as a seed of PINE_SEED_LEN bytes that makes one:
+ * XofTurboShake128, as in the original. A call with a seed gives what the call without _seed gives on that stream,
+ * which is held by no row. A seed is fresh, one for each report; secret, known to its client and the two servers
+ * alone; and from a cryptographic source. In PINE it comes from the joint randomness, so that a client cannot
+ * choose it: with a seed or a stream that it chose, a gradient too long can pass. */
 
 /* Encodes a gradient of doubles (row 1, length d), with a stream of random bytes (row 2, stream_len),
  * into the measurement (row 3, encoded_input_len; written) and the results of the wraparound tests
@@ -349,12 +358,26 @@ PINE_MUST_USE PineAnswer pine_encode_with_wr_joint_rand(PineParam param,
                                                         uint64_t *measurement, size_t measurement_len,
                                                         uint64_t *results, size_t results_len);
 
+/* The same, with a seed (row 2, PINE_SEED_LEN) in the stream's place. The same rules; a seed of another length is 7,
+ * place 2. By 11 or 20 another seed may do. */
+PINE_MUST_USE PineAnswer pine_encode_with_wr_joint_rand_seed(PineParam param,
+                                                             const double *gradient, size_t gradient_len,
+                                                             const uint8_t *seed, size_t seed_len,
+                                                             uint64_t *measurement, size_t measurement_len,
+                                                             uint64_t *results, size_t results_len);
+
 /* The wraparound tests alone, on a share of the gradient's elements (row 1, d), with the report's stream
  * (row 2, stream_len), into results (row 3, num_wr_tests; written). Rules 1 to 6, 19, 7, 12. */
 PINE_MUST_USE PineAnswer pine_run_wr_tests(PineParam param,
                                            const uint64_t *gradient, size_t gradient_len,
                                            const uint8_t *stream, size_t stream_len,
                                            uint64_t *results, size_t results_len);
+
+/* The same, with the report's seed (row 2, PINE_SEED_LEN) in the stream's place. The same rules. */
+PINE_MUST_USE PineAnswer pine_run_wr_tests_seed(PineParam param,
+                                                const uint64_t *gradient, size_t gradient_len,
+                                                const uint8_t *seed, size_t seed_len,
+                                                uint64_t *results, size_t results_len);
 
 /* ---- the circuits, on a full vector: a measurement or a share of one, then its results
  *

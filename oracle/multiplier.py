@@ -10,12 +10,14 @@ import aggregates
 import circuits
 import parts
 import reports
+import seeds
 import singles
 from aggregates import ROW, TAKING, adding, aggregate, long_rows, unshard
 from circuits import PLAIN, RANDOM, valid, valideq
 from common import BROKEN, LIMITS, P, RUST, TOP, Case, Inputs, Kind, Later, below, changed, sizes, steps, within
 from parts import ENDS, part
 from reports import NAN, draw_fixed, encode, full_vector, row, wrtests
+from seeds import SEED, encodeseed, wrtestsseed
 from singles import coord, decode, params
 
 MULTIPLIERS = tuple(Later(*both) for both in ((1, 1), (1, 65535), (65535, 1), (65535, 65535), (2, 3), (87, 10), (7, 2)))
@@ -32,7 +34,7 @@ def prefixed(later, case):
 # Drawn
 
 ALONE = ("coord", "decode")
-DRAWN = {**singles.KINDS, **reports.KINDS, **circuits.KINDS, **parts.KINDS, **aggregates.KINDS}
+DRAWN = {**singles.KINDS, **reports.KINDS, **seeds.KINDS, **circuits.KINDS, **parts.KINDS, **aggregates.KINDS}
 
 
 def number(rng):
@@ -73,6 +75,9 @@ def of_every_kind(inputs, fits, more=0):
     full, other = (full + [0])[:size.full + more], (ROW + [0])[:len(ROW) + more]
     yield encode(inputs, row(*NUMBERS), STREAM, (size.measurement + more, fits.T))
     yield wrtests(inputs, [y % P for y in NUMBERS], (STREAM + b"\0")[:len(STREAM) + more])
+    seed = (SEED + b"\0")[:len(SEED) + more]
+    yield encodeseed(inputs, row(*NUMBERS), seed, (size.measurement, fits.T))
+    yield wrtestsseed(inputs, [y % P for y in NUMBERS], seed)
     yield valid(inputs, 1, full, RANDOM)
     yield valideq(inputs, 1, full)
     yield from (part(kind, inputs, full) for kind in ENDS)

@@ -71,5 +71,10 @@ def turbo_shake128(message, domain, length):
     return output[:length]
 
 
+def dst(usage):
+    """The tag of a usage, as PINE makes it: a version, the algorithm id, the usage."""
+    return b"\x01\xff\xff\xff\xff" + usage.to_bytes(2, "big")
+
+
 def xof_turbo_shake128(seed, dst, binder, length):
     return turbo_shake128(bytes([len(dst)]) + dst + seed + binder, 1, length)

@@ -36,7 +36,7 @@ static void *row(uint64_t len, size_t size) {
     return r;
 }
 
-/* A stand-in. The stream, the cut and the joint randomness of a real report need a cryptographic source: what the
+/* A stand-in. The seed, the cut and the joint randomness of a real report need a cryptographic source: what the
  * servers learn of a gradient, and what a client can feign, depends on it (README.md, "What it is not"). */
 static uint64_t state = UINT64_C(0x9e3779b97f4a7c15);
 
@@ -85,12 +85,11 @@ int main(void) {
     const PineDerived derived = pine_derive(param);
     must(derived.answer, "derive");
     const size_t d = (size_t)param.dimension;
-    const size_t stream_len = (size_t)derived.stream_len;
     const size_t encoded_len = (size_t)derived.pine.encoded_input_len;
     const size_t input_len = (size_t)derived.pine.input_len;
     const size_t tests = (size_t)derived.pine.num_wr_tests;
 
-    uint8_t *stream = (uint8_t *)row(stream_len, 1);
+    uint8_t seed[PINE_SEED_LEN];
     uint64_t *full = (uint64_t *)row(input_len, 8); /* a measurement, then its results */
     uint64_t *share[2], *aggregate[2], *withdrawn[2];
     for (int s = 0; s < 2; s++) {
@@ -102,29 +101,29 @@ int main(void) {
 
     for (int report = 0; report < REPORTS; report++) {
         /* the client */
-        for (size_t i = 0; i < stream_len; i++) {
-            stream[i] = (uint8_t)(next() >> 56);
+        for (size_t i = 0; i < sizeof seed; i++) {
+            seed[i] = (uint8_t)(next() >> 56);
         }
-        PineAnswer answer = pine_encode_with_wr_joint_rand(
-            param, gradients[report], DIMENSION, stream, stream_len, full, encoded_len,
+        PineAnswer answer = pine_encode_with_wr_joint_rand_seed(
+            param, gradients[report], DIMENSION, seed, sizeof seed, full, encoded_len,
             full + encoded_len, tests);
         if (answer.number == PINE_WR_TEST) {
-            /* rare: a test misses with this stream; another stream may do. Clients who let a test miss set
+            /* rare: a test misses with this seed; another seed may do. Clients who let a test miss set
              * num_wr_successes below num_wr_tests and param.wr_test_rule to PINE_ENOUGH_TESTS */
             report--;
             continue;
         }
-        must(answer, "encode_with_wr_joint_rand");
+        must(answer, "encode_with_wr_joint_rand_seed");
         for (size_t i = 0; i < encoded_len; i++) {
             share[0][i] = next_element();
             share[1][i] = sub(full[i], share[0][i]);
         }
 
-        /* each server, with the report's stream */
+        /* each server, with the report's seed */
         for (int s = 0; s < 2; s++) {
-            must(pine_run_wr_tests(param, share[s], d, stream, stream_len,
-                                   share[s] + encoded_len, tests),
-                 "run_wr_tests");
+            must(pine_run_wr_tests_seed(param, share[s], d, seed, sizeof seed,
+                                        share[s] + encoded_len, tests),
+                 "run_wr_tests_seed");
         }
 
         /* both circuits on the whole vector, hence num_shares 1; in one place for show */
@@ -162,7 +161,6 @@ int main(void) {
     print_sum(param, aggregate[0], aggregate[1]);
     printf("\n");
 
-    free(stream);
     free(full);
     for (int s = 0; s < 2; s++) {
         free(share[s]);

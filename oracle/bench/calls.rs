@@ -15,8 +15,12 @@ use prio_draft09::{
     codec::Decode,
     field::Field64,
     flp::{FlpError, Gadget, Type},
-    vdaf::{xof::Seed, Aggregatable, Aggregator, Collector},
+    vdaf::{
+        xof::{Seed, Xof, XofTurboShake128},
+        Aggregatable, Aggregator, Collector,
+    },
 };
+use rand::RngCore;
 use std::{any::Any, cell::Cell, rc::Rc};
 
 #[repr(C)]
@@ -76,12 +80,32 @@ extern "C" {
         results: *mut u64,
         results_len: usize,
     ) -> Answer;
+    fn pine_encode_with_wr_joint_rand_seed(
+        param: Param,
+        gradient: *const f64,
+        gradient_len: usize,
+        seed: *const u8,
+        seed_len: usize,
+        measurement: *mut u64,
+        measurement_len: usize,
+        results: *mut u64,
+        results_len: usize,
+    ) -> Answer;
     fn pine_run_wr_tests(
         param: Param,
         gradient: *const u64,
         gradient_len: usize,
         stream: *const u8,
         stream_len: usize,
+        results: *mut u64,
+        results_len: usize,
+    ) -> Answer;
+    fn pine_run_wr_tests_seed(
+        param: Param,
+        gradient: *const u64,
+        gradient_len: usize,
+        seed: *const u8,
+        seed_len: usize,
         results: *mut u64,
         results_len: usize,
     ) -> Answer;
@@ -116,6 +140,14 @@ const ACCEPTED: Answer = Answer { number: 0, place: 0 };
 
 const DIMENSIONS: [usize; 5] = [16, 256, 1000, 4096, 65536];
 const TESTS: [usize; 4] = [1, 10, 100, 256];
+
+/// Where a call costs more than its coordinates.
+const SMALL_DIMENSIONS: [usize; 2] = [1, 4];
+const SMALL_TESTS: [usize; 3] = [1, 4, 10];
+
+/// Where the tests' bytes come of a seed.
+const SEED_DIMENSIONS: [usize; 3] = [16, 1000, 65536];
+const SEED_TESTS: [usize; 3] = [1, 10, 100];
 
 /// Where a row names no T, and where it is of a share.
 const USUAL_TESTS: usize = 100;
@@ -161,9 +193,22 @@ fn accepted(answer: Answer) {
     assert_eq!(answer, ACCEPTED);
 }
 
+fn seed_of(bytes: &[u8]) -> Seed<16> {
+    Seed::get_decoded(bytes).unwrap()
+}
+
 /// Whatever the seed, the original is given the stream.
 fn seed() -> Seed<16> {
-    Seed::get_decoded(&[7; 16]).unwrap()
+    seed_of(&[7; 16])
+}
+
+/// By hand, the whole stream of a seed comes from the original's XOF.
+fn stream_of(seed: &[u8], param: Param) -> Vec<u8> {
+    const DST: [u8; 7] = [1, 0xff, 0xff, 0xff, 0xff, 0, 8];
+    let [_, d, _, _, _, t, _] = param.0.map(|x| x as usize);
+    let mut stream = vec![0; d.div_ceil(4) * t];
+    XofTurboShake128::seed_stream(&seed_of(seed), &DST, &[]).fill_bytes(&mut stream);
+    stream
 }
 
 // Encoding and the tests
@@ -260,6 +305,53 @@ fn encode(d: usize, t: usize) -> Row {
     )
 }
 
+fn seeded(random: &mut Random, param: Param) -> Report {
+    Report { stream: random.bytes(16), ..report(random, param) }
+}
+
+/// The stream of the report is a seed.
+fn encode_seed_ours(w: &mut Encoding) -> Answer {
+    let Report { param, gradient, stream: seed } = &w.report;
+    unsafe {
+        pine_encode_with_wr_joint_rand_seed(
+            *param,
+            gradient.as_ptr(),
+            gradient.len(),
+            seed.as_ptr(),
+            seed.len(),
+            w.measurement.as_mut_ptr(),
+            w.measurement.len(),
+            w.results.as_mut_ptr(),
+            w.results.len(),
+        )
+    }
+}
+
+fn encode_seed_by_hand(w: &mut Encoding) -> Answer {
+    let Report { param, gradient, stream: seed } = &w.report;
+    let stream = stream_of(seed, *param);
+    answer(&by_hand::encode(*param, gradient, &stream, &mut w.measurement, &mut w.results))
+}
+
+fn encode_seed(d: usize, t: usize) -> Row {
+    let original = way(
+        |s: &Report| (new(s.param.0), s.gradient.clone(), seed_of(&s.stream)),
+        |(pine, gradient, seed)| {
+            pine.flp.encode_with_wr_joint_rand::<XofTurboShake128, 16>(gradient.iter().copied(), seed).unwrap()
+        },
+        |_, (measurement, results)| words(&[measurement, results].concat()),
+    );
+    row(
+        Title { name: "encode, seed".into(), ..encode_title(d, t) },
+        move |r| seeded(r, param(d, (1, 1), t)),
+        Ways {
+            original: Some(original),
+            ours: way(encoding, encode_seed_ours, encoded),
+            by_hand: Some(way(encoding, encode_seed_by_hand, encoded)),
+        },
+    )
+}
+
 #[derive(Clone)]
 struct Tests {
     param: Param,
@@ -299,10 +391,14 @@ fn test_results(w: Tests, answer: Answer) -> Vec<u64> {
     w.results
 }
 
+fn tests_title(d: usize, t: usize) -> Title {
+    let bytes = 8 * d + d.div_ceil(4) * t + 8 * t;
+    Title { tests: Some(t), count: d * t, ..title("tests", d, "coordinate*test", bytes) }
+}
+
 fn tests(d: usize, t: usize, share: bool) -> Row {
     let note = if share { "a share" } else { "" }.into();
-    let bytes = 8 * d + d.div_ceil(4) * t + 8 * t;
-    let title = Title { tests: Some(t), note, count: d * t, ..title("tests", d, "coordinate*test", bytes) };
+    let title = Title { note, ..tests_title(d, t) };
     let ready = |s: &Tests| {
         give(&s.stream);
         (new(s.param.0), fields(&s.gradient))
@@ -316,6 +412,47 @@ fn tests(d: usize, t: usize, share: bool) -> Row {
             original: Some(original),
             ours: way(Tests::clone, tests_ours, test_results),
             by_hand: Some(way(Tests::clone, tests_by_hand, test_results)),
+        },
+    )
+}
+
+fn seeded_tests(random: &mut Random, param: Param) -> Tests {
+    Tests { stream: random.bytes(16), ..fresh_tests(random, param, false) }
+}
+
+/// The stream is a seed.
+fn tests_seed_ours(w: &mut Tests) -> Answer {
+    unsafe {
+        pine_run_wr_tests_seed(
+            w.param,
+            w.gradient.as_ptr(),
+            w.gradient.len(),
+            w.stream.as_ptr(),
+            w.stream.len(),
+            w.results.as_mut_ptr(),
+            w.results.len(),
+        )
+    }
+}
+
+fn tests_seed_by_hand(w: &mut Tests) -> Answer {
+    let stream = stream_of(&w.stream, w.param);
+    answer(&by_hand::run_wr_tests(w.param, &w.gradient, &stream, &mut w.results))
+}
+
+fn tests_seed(d: usize, t: usize) -> Row {
+    let original = way(
+        |s: &Tests| (new(s.param.0), fields(&s.gradient), seed_of(&s.stream)),
+        |(pine, gradient, seed)| run_wr_tests::<XofTurboShake128>(pine, gradient, seed),
+        |_, results| words(&results),
+    );
+    row(
+        Title { name: "tests, seed".into(), ..tests_title(d, t) },
+        move |r| seeded_tests(r, param(d, (1, 1), t)),
+        Ways {
+            original: Some(original),
+            ours: way(Tests::clone, tests_seed_ours, test_results),
+            by_hand: Some(way(Tests::clone, tests_seed_by_hand, test_results)),
         },
     )
 }
@@ -675,7 +812,18 @@ fn of_dimension(d: usize) -> Vec<Row> {
     rows
 }
 
+fn small(d: usize) -> Vec<Row> {
+    SMALL_TESTS.into_iter().flat_map(|t| [encode(d, t), tests(d, t, false)]).collect()
+}
+
+fn of_seed(d: usize) -> Vec<Row> {
+    SEED_TESTS.into_iter().flat_map(|t| [encode_seed(d, t), tests_seed(d, t)]).collect()
+}
+
 pub fn table() -> Vec<Row> {
-    let single = [f64_to_field(), field_to_f64(), derive()];
-    DIMENSIONS.into_iter().flat_map(of_dimension).chain(single).collect()
+    let mut rows: Vec<Row> = SMALL_DIMENSIONS.into_iter().flat_map(small).collect();
+    rows.extend(DIMENSIONS.into_iter().flat_map(of_dimension));
+    rows.extend(SEED_DIMENSIONS.into_iter().flat_map(of_seed));
+    rows.extend([f64_to_field(), field_to_f64(), derive()]);
+    rows
 }

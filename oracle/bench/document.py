@@ -16,7 +16,9 @@ HERE = Path(__file__).resolve().parent
 # the calls by table
 TABLES = (
     ("encode",),
+    ("encode, seed",),
     ("tests",),
+    ("tests, seed",),
     ("valid",),
     ("valid_sq_norm_equal",),
     ("gradient_part", "checked_part", "results_part"),
@@ -27,7 +29,7 @@ TABLES = (
 )
 
 # the rows that others refer to
-HEADLINES = ("encode", "tests", "valid", "valid_sq_norm_equal", "accumulate", "unshard")
+HEADLINES = ("encode", "encode, seed", "tests", "tests, seed", "valid", "valid_sq_norm_equal", "accumulate", "unshard")
 HEADLINE_LENGTHS = (1000, 65536)
 USUAL_TESTS = 100
 

@@ -10,7 +10,9 @@ pub enum Call {
     F64ToField,
     FieldToF64,
     Encode,
+    EncodeSeed,
     RunWrTests,
+    RunWrTestsSeed,
     Valid,
     ValidSqNormEqual,
     GradientPart,
@@ -24,13 +26,15 @@ pub enum Call {
     Unshard,
 }
 
-pub const CALLS: [Call; 17] = [
+pub const CALLS: [Call; 19] = [
     Call::CheckParam,
     Call::Derive,
     Call::F64ToField,
     Call::FieldToF64,
     Call::Encode,
+    Call::EncodeSeed,
     Call::RunWrTests,
+    Call::RunWrTestsSeed,
     Call::Valid,
     Call::ValidSqNormEqual,
     Call::GradientPart,
@@ -53,7 +57,9 @@ impl Call {
             Call::F64ToField => "f64_to_field",
             Call::FieldToF64 => "field_to_f64",
             Call::Encode => "encode_with_wr_joint_rand",
+            Call::EncodeSeed => "encode_with_wr_joint_rand_seed",
             Call::RunWrTests => "run_wr_tests",
+            Call::RunWrTestsSeed => "run_wr_tests_seed",
             Call::Valid => "valid",
             Call::ValidSqNormEqual => "valid_sq_norm_equal",
             Call::GradientPart => "gradient_part",
@@ -79,7 +85,9 @@ impl Call {
             Call::F64ToField => "coord",
             Call::FieldToF64 => "decode",
             Call::Encode => "encode",
+            Call::EncodeSeed => "encodeseed",
             Call::RunWrTests => "wrtests",
+            Call::RunWrTestsSeed => "wrtestsseed",
             Call::ValidSqNormEqual => "valideq",
             Call::EmptyAggregate => "aggregate",
             _ => self.name(),
@@ -93,7 +101,7 @@ pub enum Row {
     /// Read.
     Elements(Vec<u64>),
     /// Read.
-    Stream(Vec<u8>),
+    Bytes(Vec<u8>),
     /// Read and written.
     Aggregate(Vec<u64>),
     /// Written; what it holds before the call.
@@ -103,7 +111,7 @@ pub enum Row {
 impl Row {
     pub fn len(&self) -> usize {
         match self {
-            Row::Stream(bytes) => bytes.len(),
+            Row::Bytes(bytes) => bytes.len(),
             Row::Doubles(row) | Row::Elements(row) | Row::Aggregate(row) | Row::Written(row) => row.len(),
         }
     }
@@ -111,7 +119,7 @@ impl Row {
     /// What it holds; not for bytes.
     pub fn words(&self) -> &[u64] {
         match self {
-            Row::Stream(_) => &[],
+            Row::Bytes(_) => &[],
             Row::Doubles(row) | Row::Elements(row) | Row::Aggregate(row) | Row::Written(row) => row,
         }
     }
@@ -148,8 +156,8 @@ fn write_row(to: &mut Formatter, row: &Row) -> Result {
     match row {
         Row::Doubles(row) => write_vec(to, row, 16),
         Row::Elements(row) | Row::Aggregate(row) => write_vec(to, row, 1),
-        Row::Stream(bytes) if bytes.is_empty() => write!(to, " -"),
-        Row::Stream(bytes) => {
+        Row::Bytes(bytes) if bytes.is_empty() => write!(to, " -"),
+        Row::Bytes(bytes) => {
             write!(to, " ")?;
             bytes.iter().try_for_each(|x| write!(to, "{x:02x}"))
         }

@@ -100,7 +100,7 @@ fn circuits_give_zero(random: &mut Random, param: Param, written: &[Vec<u64>]) -
 
 pub fn compare(random: &mut Random, case: &Case) -> Result<Same, String> {
     let same = compare_on(&mut lend(random, case), case)?;
-    if case.call == Call::Encode && same.answer == ACCEPTED {
+    if matches!(case.call, Call::Encode | Call::EncodeSeed) && same.answer == ACCEPTED {
         circuits_give_zero(random, case.param, &same.written)?;
     }
     Ok(same)

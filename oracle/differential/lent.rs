@@ -32,7 +32,7 @@ impl Lent {
 
     pub fn new(random: &mut Random, row: &Row) -> Lent {
         match row {
-            Row::Stream(bytes) => Lent::of_bytes(random, bytes),
+            Row::Bytes(bytes) => Lent::of_bytes(random, bytes),
             Row::Doubles(row) | Row::Elements(row) | Row::Aggregate(row) | Row::Written(row) => {
                 Lent::of_words(random, row)
             }

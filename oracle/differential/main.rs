@@ -18,6 +18,7 @@ mod ours;
 mod param;
 mod random;
 mod rules;
+mod seed;
 mod whole;
 
 use at_hand::profile;

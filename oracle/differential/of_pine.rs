@@ -1,8 +1,10 @@
 /// What the driver asks and cannot name from outside this module, called as it stands.
 pub mod opened {
     use super::{vdaf::PineVec, *};
-    use crate::xofs::ChosenXof;
-    use prio_draft09::{flp::Type, vdaf::xof::Seed};
+    use prio_draft09::{
+        flp::Type,
+        vdaf::xof::{Seed, Xof},
+    };
 
     /// For n, d, f, c, e, T and K, with another test bound than its own if one is given.
     pub fn new(inputs: [u64; 7], bound: Option<u64>) -> Result<Pine64, VdafError> {
@@ -71,8 +73,8 @@ pub mod opened {
         super::field_to_f64(y, scale(frac_bits as usize))
     }
 
-    pub fn run_wr_tests(pine: &Pine64, gradient: &[Field64], seed: &Seed<16>) -> Vec<Field64> {
-        pine.flp.run_wr_tests::<ChosenXof, 16>(gradient, seed)
+    pub fn run_wr_tests<X: Xof<16>>(pine: &Pine64, gradient: &[Field64], seed: &Seed<16>) -> Vec<Field64> {
+        pine.flp.run_wr_tests::<X, 16>(gradient, seed)
     }
 
     /// The gradient, the checked elements and the results, cut as `valid` does.

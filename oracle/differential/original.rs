@@ -1,20 +1,23 @@
 //! The same calls of the original. What docs/PINE.md refuses is not put to it. With another multiplier than its own it is
-//! given the test bound that the driver works out, and where tests missed, a stream with which they do not.
+//! given the test bound that the driver works out, and where tests missed, a stream with which they do not. A seed is put
+//! to it with its own XOF.
 
 use crate::{
     case::{Call, Case, Row},
     param::{Param, Sizes, STANDARD},
-    whole,
+    seed, whole,
 };
 use pine_oracle::{
     pine::{opened, Pine64},
     xofs::{choose_stream, ChosenXof},
 };
 use prio_draft09::{
-    codec::Decode,
     field::Field64,
     flp::{FlpError, Gadget, Type},
-    vdaf::{xof::Seed, Aggregatable, Aggregator, Collector},
+    vdaf::{
+        xof::{Seed, XofTurboShake128},
+        Aggregatable, Aggregator, Collector,
+    },
 };
 use std::{
     any::Any,
@@ -48,19 +51,44 @@ fn words(row: &[Field64]) -> Vec<u64> {
     row.iter().map(|x| u64::from(*x)).collect()
 }
 
+/// The bytes of the tests: a stream, or 16 that are a seed.
+#[derive(Clone, Copy)]
+enum Tests<'a> {
+    Stream(&'a [u8]),
+    Seed(&'a [u8]),
+}
+
+impl Tests<'_> {
+    fn stream(self, len: usize) -> Vec<u8> {
+        match self {
+            Tests::Stream(stream) => stream.to_vec(),
+            Tests::Seed(bytes) => seed::stream(bytes, len),
+        }
+    }
+}
+
 /// The chosen bytes are handed out whatever the seed.
 fn choose(stream: &[u8]) -> Seed<16> {
     choose_stream(stream.to_vec());
-    Seed::get_decoded(&[7; 16]).unwrap()
+    seed::seed(&[7; 16])
 }
 
-fn run_wr_tests(pine: &Pine64, gradient: &Row, stream: &[u8]) -> Vec<u64> {
-    words(&opened::run_wr_tests(pine, &fields(gradient), &choose(stream)))
+fn run_wr_tests(pine: &Pine64, gradient: &Row, tests: Tests) -> Vec<u64> {
+    let gradient = fields(gradient);
+    words(&match tests {
+        Tests::Stream(stream) => opened::run_wr_tests::<ChosenXof>(pine, &gradient, &choose(stream)),
+        Tests::Seed(bytes) => opened::run_wr_tests::<XofTurboShake128>(pine, &gradient, &seed::seed(bytes)),
+    })
 }
 
-fn encode(pine: &Pine64, gradient: &[u64], stream: &[u8]) -> Outcome<Given> {
+fn encode(pine: &Pine64, gradient: &[u64], tests: Tests) -> Outcome<Given> {
     let gradient = gradient.iter().map(|x| f64::from_bits(*x));
-    let (measurement, results) = pine.flp.encode_with_wr_joint_rand::<ChosenXof, 16>(gradient, &choose(stream))?;
+    let (measurement, results) = match tests {
+        Tests::Stream(stream) => pine.flp.encode_with_wr_joint_rand::<ChosenXof, 16>(gradient, &choose(stream))?,
+        Tests::Seed(bytes) => {
+            pine.flp.encode_with_wr_joint_rand::<XofTurboShake128, 16>(gradient, &seed::seed(bytes))?
+        }
+    };
     rows(vec![words(&measurement), words(&results)])
 }
 
@@ -69,22 +97,22 @@ const NOTHING: u8 = 0x55;
 
 /// The original refuses where a test missed. So it is asked with such tests adding nothing; in the measurement that it
 /// gives they become zeros, and the first K others have the success bits.
-fn encode_with_misses(pine: &Pine64, param: &Param, gradient: &[u64], stream: &[u8]) -> Outcome<Given> {
+fn encode_with_misses(pine: &Pine64, param: &Param, gradient: &[u64], tests: Tests) -> Outcome<Given> {
     let sizes = Sizes::of(param);
-    let in_range: Vec<bool> = whole::in_range(&whole::floors(gradient, param.f), stream, &sizes).collect();
+    let mut passing = tests.stream(sizes.stream);
+    let in_range: Vec<bool> = whole::in_range(&whole::floors(gradient, param.f), &passing, &sizes).collect();
     if !in_range.contains(&false) {
-        return encode(pine, gradient, stream);
+        return encode(pine, gradient, tests);
     }
-    let mut passing = stream.to_vec();
     for (bytes, in_range) in passing.chunks_mut(sizes.per_test).zip(&in_range) {
         if !in_range {
             bytes.fill(NOTHING);
         }
     }
-    let mut given = encode(pine, gradient, &passing)?;
-    let (elements, tests) = given.rows[0].split_at_mut(gradient.len() + 2 * sizes.bits);
+    let mut given = encode(pine, gradient, Tests::Stream(&passing))?;
+    let (elements, bits) = given.rows[0].split_at_mut(gradient.len() + 2 * sizes.bits);
     let mut successes = 0;
-    for (test, in_range) in tests.chunks_mut(sizes.test_bits + 1).zip(&in_range) {
+    for (test, in_range) in bits.chunks_mut(sizes.test_bits + 1).zip(&in_range) {
         if *in_range {
             test[sizes.test_bits] = u64::from(successes < param.k);
             successes += 1;
@@ -93,7 +121,7 @@ fn encode_with_misses(pine: &Pine64, param: &Param, gradient: &[u64], stream: &[
         }
     }
     let gradient = Row::Elements(elements[..gradient.len()].to_vec());
-    given.rows[1] = run_wr_tests(pine, &gradient, stream);
+    given.rows[1] = run_wr_tests(pine, &gradient, tests);
     Ok(given)
 }
 
@@ -173,10 +201,18 @@ fn answer(case: &Case) -> Outcome<Given> {
     match (case.call, &case.rows[..]) {
         (Call::CheckParam, []) => values(vec![]),
         (Call::Derive, []) => values(opened::record(&pine)),
-        (Call::Encode, [Row::Doubles(gradient), Row::Stream(stream), ..]) => {
-            encode_with_misses(&pine, &case.param, gradient, stream)
+        (Call::Encode, [Row::Doubles(gradient), Row::Bytes(stream), ..]) => {
+            encode_with_misses(&pine, &case.param, gradient, Tests::Stream(stream))
         }
-        (Call::RunWrTests, [gradient, Row::Stream(stream), _]) => rows(vec![run_wr_tests(&pine, gradient, stream)]),
+        (Call::EncodeSeed, [Row::Doubles(gradient), Row::Bytes(seed), ..]) => {
+            encode_with_misses(&pine, &case.param, gradient, Tests::Seed(seed))
+        }
+        (Call::RunWrTests, [gradient, Row::Bytes(stream), _]) => {
+            rows(vec![run_wr_tests(&pine, gradient, Tests::Stream(stream))])
+        }
+        (Call::RunWrTestsSeed, [gradient, Row::Bytes(seed), _]) => {
+            rows(vec![run_wr_tests(&pine, gradient, Tests::Seed(seed))])
+        }
         (Call::Valid, [full, joint_rand]) => circuit(&pine.flp, number, full, &fields(joint_rand)),
         (Call::ValidSqNormEqual, [full]) => circuit(&pine.flp_sq_norm_equal, number, full, &[]),
         (Call::GradientPart, [full]) => part(&pine, full, 0),

@@ -39,12 +39,32 @@ extern "C" {
         results: *mut u64,
         results_len: usize,
     ) -> Answer;
+    fn pine_encode_with_wr_joint_rand_seed(
+        param: Param,
+        gradient: *const f64,
+        gradient_len: usize,
+        seed: *const u8,
+        seed_len: usize,
+        measurement: *mut u64,
+        measurement_len: usize,
+        results: *mut u64,
+        results_len: usize,
+    ) -> Answer;
     fn pine_run_wr_tests(
         param: Param,
         gradient: *const u64,
         gradient_len: usize,
         stream: *const u8,
         stream_len: usize,
+        results: *mut u64,
+        results_len: usize,
+    ) -> Answer;
+    fn pine_run_wr_tests_seed(
+        param: Param,
+        gradient: *const u64,
+        gradient_len: usize,
+        seed: *const u8,
+        seed_len: usize,
         results: *mut u64,
         results_len: usize,
     ) -> Answer;
@@ -120,20 +140,17 @@ pub fn call(case: &Case, rows: &mut [Lent]) -> Given {
             (Call::Derive, []) => derive(p),
             (Call::F64ToField, []) => pine_f64_to_field(f64::from_bits(number), p.f).into(),
             (Call::FieldToF64, []) => pine_field_to_f64(number, p.f).into(),
-            (Call::Encode, [g, s, m, r]) => pine_encode_with_wr_joint_rand(
-                p,
-                g.pointer(),
-                g.len,
-                s.pointer(),
-                s.len,
-                m.pointer(),
-                m.len,
-                r.pointer(),
-                r.len,
-            )
-            .into(),
-            (Call::RunWrTests, [g, s, r]) => {
-                pine_run_wr_tests(p, g.pointer(), g.len, s.pointer(), s.len, r.pointer(), r.len).into()
+            (Call::Encode | Call::EncodeSeed, [g, s, m, r]) => {
+                let encode = if case.call == Call::Encode {
+                    pine_encode_with_wr_joint_rand
+                } else {
+                    pine_encode_with_wr_joint_rand_seed
+                };
+                encode(p, g.pointer(), g.len, s.pointer(), s.len, m.pointer(), m.len, r.pointer(), r.len).into()
+            }
+            (Call::RunWrTests | Call::RunWrTestsSeed, [g, s, r]) => {
+                let run = if case.call == Call::RunWrTests { pine_run_wr_tests } else { pine_run_wr_tests_seed };
+                run(p, g.pointer(), g.len, s.pointer(), s.len, r.pointer(), r.len).into()
             }
             (Call::Valid, [x, r]) => pine_valid(p, number, x.pointer(), x.len, r.pointer(), r.len).into(),
             (Call::ValidSqNormEqual, [x]) => pine_valid_sq_norm_equal(p, number, x.pointer(), x.len).into(),

@@ -3,6 +3,7 @@
 use crate::{
     case::{Call, Case, Row},
     param::{within, Param, Sizes, CHUNK, D, F, N, P, SHARES, T},
+    seed::{self, SEED_LEN},
     whole,
 };
 use std::fmt::{Display, Formatter};
@@ -55,7 +56,9 @@ fn derived(call: Call, param: &Param) -> Vec<Option<usize>> {
     match call {
         Call::CheckParam | Call::Derive | Call::F64ToField | Call::FieldToF64 => vec![],
         Call::Encode => vec![None, Some(sizes.stream), Some(sizes.measurement), t],
+        Call::EncodeSeed => vec![None, Some(SEED_LEN), Some(sizes.measurement), t],
         Call::RunWrTests => vec![d, Some(sizes.stream), t],
+        Call::RunWrTestsSeed => vec![d, Some(SEED_LEN), t],
         Call::Valid => vec![Some(sizes.full), Some(3)],
         Call::ValidSqNormEqual | Call::GradientPart | Call::CheckedPart | Call::ResultsPart => vec![Some(sizes.full)],
         Call::EmptyAggregate => vec![d],
@@ -98,8 +101,12 @@ fn rules_on_numbers(param: &Param, numbers: &[i128], stream: &[u8]) -> Option<An
 }
 
 fn rules_on_gradient(case: &Case) -> Option<Answer> {
-    let [Row::Doubles(gradient), Row::Stream(stream), ..] = &case.rows[..] else {
+    let [Row::Doubles(gradient), Row::Bytes(bytes), ..] = &case.rows[..] else {
         return None;
+    };
+    let stream = || match case.call {
+        Call::EncodeSeed => seed::stream(bytes, Sizes::of(&case.param).stream),
+        _ => bytes.clone(),
     };
     let coordinate = |(i, x): (usize, &u64)| {
         whole::coordinate_rule(*x, case.param.f).map(|number| Answer { number, place: i as u64 })
@@ -107,7 +114,7 @@ fn rules_on_gradient(case: &Case) -> Option<Answer> {
     let rule_8_or_17 = gradient.iter().enumerate().find_map(coordinate);
     rule_8_or_17
         .or_else(|| rule(9, gradient.len() as u64 != case.param.d))
-        .or_else(|| rules_on_numbers(&case.param, &whole::floors(gradient, case.param.f), stream))
+        .or_else(|| rules_on_numbers(&case.param, &whole::floors(gradient, case.param.f), &stream()))
 }
 
 pub fn answer(case: &Case) -> Answer {

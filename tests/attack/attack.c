@@ -41,13 +41,14 @@
 /* ---- what is being done, for the message if it fails */
 
 enum Kind {
-    CHECK_PARAM, DERIVE, WR_TEST_BOUND, F64_TO_FIELD, FIELD_TO_F64, ENCODE, RUN_WR_TESTS, VALID, VALID_EQUAL,
-    GRADIENT_PART, CHECKED_PART, RESULTS_PART, EMPTY_AGGREGATE, ACCUMULATE, MERGE, SUBTRACT, UNMERGE, UNSHARD,
+    CHECK_PARAM, DERIVE, WR_TEST_BOUND, F64_TO_FIELD, FIELD_TO_F64, ENCODE, ENCODE_SEED, RUN_WR_TESTS,
+    RUN_WR_TESTS_SEED, VALID, VALID_EQUAL, GRADIENT_PART, CHECKED_PART, RESULTS_PART, EMPTY_AGGREGATE, ACCUMULATE,
+    MERGE, SUBTRACT, UNMERGE, UNSHARD,
     FILE_READ, FILE_WRITE, FILE_MAX, FILE_ADD, FILE_SIZE, KINDS
 };
 static const char *const names[KINDS] = {
     "check_param", "derive", "wr_test_bound", "f64_to_field", "field_to_f64", "encode_with_wr_joint_rand",
-    "run_wr_tests", "valid",
+    "encode_with_wr_joint_rand_seed", "run_wr_tests", "run_wr_tests_seed", "valid",
     "valid_sq_norm_equal", "gradient_part", "checked_part", "results_part", "empty_aggregate", "accumulate", "merge",
     "subtract", "unmerge", "unshard", "file_read", "file_write", "file_max", "file_add", "file_size"
 };
@@ -417,9 +418,19 @@ static void norm_within(PineParam p, PineAnswer a, const uint64_t *m) {
     }
 }
 
+/* With a stream, and with a seed. */
+typedef PineAnswer Encode(PineParam param, const double *gradient, size_t gradient_len, const uint8_t *bytes,
+                          size_t bytes_len, uint64_t *measurement, size_t measurement_len, uint64_t *results,
+                          size_t results_len);
+typedef PineAnswer RunWrTests(PineParam param, const uint64_t *gradient, size_t gradient_len, const uint8_t *bytes,
+                              size_t bytes_len, uint64_t *results, size_t results_len);
+static Encode *const encodes[] = {pine_encode_with_wr_joint_rand, pine_encode_with_wr_joint_rand_seed};
+static RunWrTests *const runs[] = {pine_run_wr_tests, pine_run_wr_tests_seed};
+
 static void report(PineParam p, const PineDerived *v) {
+    int seeded = once_in(2);
     size_t d = (size_t)p.dimension, encoded = (size_t)v->pine.encoded_input_len, full = (size_t)v->pine.input_len;
-    size_t tests = (size_t)p.num_wr_tests, stream = (size_t)v->stream_len;
+    size_t tests = (size_t)p.num_wr_tests, stream = seeded ? PINE_SEED_LEN : (size_t)v->stream_len;
     uint64_t *measurement = (uint64_t *)malloc(full * 8), *sum = (uint64_t *)malloc(full * 8);
     uint8_t *report_stream = (uint8_t *)malloc(stream);
     if (measurement == NULL || sum == NULL || report_stream == NULL) {
@@ -429,8 +440,8 @@ static void report(PineParam p, const PineDerived *v) {
     double *gradient = coordinates(0, d, p, 1);
     uint8_t *s = bytes(1, stream);
     uint64_t *m = (uint64_t *)place(2, encoded, 8), *r = (uint64_t *)place(3, tests, 8);
-    kind = ENCODE;
-    TWICE(4, 12, pine_encode_with_wr_joint_rand(p, gradient, d, s, stream, m, encoded, r, tests));
+    kind = seeded ? ENCODE_SEED : ENCODE;
+    TWICE(4, 12, encodes[seeded](p, gradient, d, s, stream, m, encoded, r, tests));
     tests_written(p, &v->pine, a, m, r);
     norm_within(p, a, m);
     if (a.number != 0) {
@@ -455,8 +466,8 @@ static void report(PineParam p, const PineDerived *v) {
         s = (uint8_t *)place(1, stream, 1);
         memcpy(s, report_stream, stream);
         r = (uint64_t *)place(2, tests, 8);
-        kind = RUN_WR_TESTS;
-        TWICE(3, 4, pine_run_wr_tests(p, g, d, s, stream, r, tests));
+        kind = seeded ? RUN_WR_TESTS_SEED : RUN_WR_TESTS;
+        TWICE(3, 4, runs[seeded](p, g, d, s, stream, r, tests));
         if (a.number != 0) {
             fail("refuses a share of a report");
         }
@@ -466,7 +477,7 @@ static void report(PineParam p, const PineDerived *v) {
         sum[k] = add(left[k], right[k]);
     }
     if (memcmp(sum, measurement, full * 8) != 0) {
-        kind = RUN_WR_TESTS;
+        kind = seeded ? RUN_WR_TESTS_SEED : RUN_WR_TESTS;
         fail("results of the shares do not add up");
     }
     uint64_t *f = (uint64_t *)place(0, full, 8);
@@ -511,6 +522,12 @@ done:
 /* ---- one step: a call or a report */
 
 typedef PineAnswer OnTwoRows(PineParam param, uint64_t *agg, size_t agg_len, const uint64_t *other, size_t other_len);
+
+static void is_seed(PineAnswer a, size_t n) {
+    if (a.number == 0 && n != PINE_SEED_LEN) {
+        fail("accepts a seed of another length");
+    }
+}
 
 static void step(void) {
     PineParam p = any_param();
@@ -580,12 +597,17 @@ static void step(void) {
         }
         break;
     }
-    case ENCODE: {
-        size_t n[4] = {near(d, 0), near(v.stream_len, 0), near(v.pine.encoded_input_len, 0), near(v.pine.num_wr_tests, 0)};
+    case ENCODE:
+    case ENCODE_SEED: {
+        int seeded = kind == ENCODE_SEED;
+        size_t n[4] = {near(d, 0), near(seeded ? PINE_SEED_LEN : v.stream_len, 0), near(v.pine.encoded_input_len, 0), near(v.pine.num_wr_tests, 0)};
         double *g = (double *)pointer(coordinates(0, n[0], p, 0), n[0]);
         uint8_t *s = (uint8_t *)pointer(bytes(1, n[1]), n[1]);
         uint64_t *m = (uint64_t *)pointer(place(2, n[2], 8), n[2]), *r = (uint64_t *)pointer(place(3, n[3], 8), n[3]);
-        TWICE(4, 12, pine_encode_with_wr_joint_rand(p, g, n[0], s, n[1], m, n[2], r, n[3]));
+        TWICE(4, 12, encodes[seeded](p, g, n[0], s, n[1], m, n[2], r, n[3]));
+        if (seeded) {
+            is_seed(a, n[1]);
+        }
         tests_written(p, &v.pine, a, m, r);
         norm_within(p, a, m);
         if (a.number == 0) {
@@ -594,12 +616,17 @@ static void step(void) {
         }
         break;
     }
-    case RUN_WR_TESTS: {
-        size_t n[3] = {near(d, 0), near(v.stream_len, 0), near(v.pine.num_wr_tests, 0)};
+    case RUN_WR_TESTS:
+    case RUN_WR_TESTS_SEED: {
+        int seeded = kind == RUN_WR_TESTS_SEED;
+        size_t n[3] = {near(d, 0), near(seeded ? PINE_SEED_LEN : v.stream_len, 0), near(v.pine.num_wr_tests, 0)};
         uint64_t *g = (uint64_t *)pointer(elements(0, n[0], 0), n[0]);
         uint8_t *s = (uint8_t *)pointer(bytes(1, n[1]), n[1]);
         uint64_t *r = (uint64_t *)pointer(place(2, n[2], 8), n[2]);
-        TWICE(3, 4, pine_run_wr_tests(p, g, n[0], s, n[1], r, n[2]));
+        TWICE(3, 4, runs[seeded](p, g, n[0], s, n[1], r, n[2]));
+        if (seeded) {
+            is_seed(a, n[1]);
+        }
         if (a.number == 0) {
             all_elements(r, n[2]);
         }
@@ -749,7 +776,7 @@ int main(int argc, char **argv) {
         }
         step();
     }
-    printf("%-26s %10s", "call", "accepted");
+    printf("%-30s %10s", "call", "accepted");
     for (unsigned r = 1; r <= LAST_RULE; r++) {
         if (is_rule(r)) {
             printf(" %8u", r);
@@ -757,7 +784,7 @@ int main(int argc, char **argv) {
     }
     printf("\n");
     for (int k = 0; k < KINDS; k++) {
-        printf("%-26s", names[k]);
+        printf("%-30s", names[k]);
         for (unsigned r = 0; r <= LAST_RULE; r++) {
             if (is_rule(r)) {
                 printf(r == 0 ? " %10llu" : " %8llu", counts[k][r]);

@@ -19,6 +19,11 @@ PineAnswer __real_pine_encode_with_wr_joint_rand(PineParam p, const double *g, s
 PineAnswer __wrap_pine_encode_with_wr_joint_rand(PineParam p, const double *g, size_t gn, const uint8_t *s, size_t sn,
                                                  uint64_t *m, size_t mn, uint64_t *r, size_t rn);
 
+PineAnswer __real_pine_run_wr_tests_seed(PineParam p, const uint64_t *g, size_t gn, const uint8_t *s, size_t sn,
+                                         uint64_t *r, size_t rn);
+PineAnswer __wrap_pine_run_wr_tests_seed(PineParam p, const uint64_t *g, size_t gn, const uint8_t *s, size_t sn,
+                                         uint64_t *r, size_t rn);
+
 /* 1: reads past a row; 2: reads before a row; 3: decodes what the row held before */
 PineAnswer __wrap_pine_unshard(PineParam p, const uint64_t *l, size_t ln, const uint64_t *r, size_t rn, double *o, size_t on) {
     if (FAULT == 1 && ln != 0) {
@@ -154,4 +159,14 @@ PineAnswer __wrap_pine_file_read(PineParam p, const uint8_t *f, size_t fn, uint8
         b[bn - 1 - k] = x;
     }
     return a;
+}
+
+/* 22: takes the first bytes of a longer seed; 23: takes another seed than was given */
+PineAnswer __wrap_pine_run_wr_tests_seed(PineParam p, const uint64_t *g, size_t gn, const uint8_t *s, size_t sn,
+                                         uint64_t *r, size_t rn) {
+    static const uint8_t other[PINE_SEED_LEN];
+    if (FAULT == 22 && sn > PINE_SEED_LEN) {
+        sn = PINE_SEED_LEN;
+    }
+    return __real_pine_run_wr_tests_seed(p, g, gn, FAULT == 23 && sn == PINE_SEED_LEN ? other : s, sn, r, rn);
 }

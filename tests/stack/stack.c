@@ -23,6 +23,7 @@ static double *gradient, *decoded;
 static uint64_t *elements, *measurement, *results, *other, joint_rand[PINE_JOINT_RAND_LEN] = {3, 5, 7};
 static uint8_t *stream, *file, *second, keys[8 * 1100];
 static size_t file_len;
+static const uint8_t seed[PINE_SEED_LEN] = {1, 2, 3, 5, 8, 13, 21, 34, 55, 89, 144, 233};
 static uint64_t taken;
 
 /* Below this frame the call's begins. */
@@ -58,7 +59,13 @@ static void field_to_f64(void) { taken += pine_field_to_f64(elements[0], param.f
 static void encode(void) {
     taken += pine_encode_with_wr_joint_rand(param, gradient, d, stream, stream_len, measurement, encoded, results, tests).number;
 }
+static void encode_seed(void) {
+    taken += pine_encode_with_wr_joint_rand_seed(param, gradient, d, seed, PINE_SEED_LEN, measurement, encoded, results, tests).number;
+}
 static void run_wr_tests(void) { taken += pine_run_wr_tests(param, elements, d, stream, stream_len, results, tests).number; }
+static void run_wr_tests_seed(void) {
+    taken += pine_run_wr_tests_seed(param, elements, d, seed, PINE_SEED_LEN, results, tests).number;
+}
 static void valid(void) { taken += pine_valid(param, 2, measurement, full, joint_rand, PINE_JOINT_RAND_LEN).value; }
 static void valid_sq_norm_equal(void) { taken += pine_valid_sq_norm_equal(param, 2, measurement, full).value; }
 static void gradient_part(void) { taken += pine_gradient_part(param, measurement, full).len; }
@@ -90,7 +97,9 @@ static const struct {
     {"f64_to_field", f64_to_field},
     {"field_to_f64", field_to_f64},
     {"encode_with_wr_joint_rand", encode},
+    {"encode_with_wr_joint_rand_seed", encode_seed},
     {"run_wr_tests", run_wr_tests},
+    {"run_wr_tests_seed", run_wr_tests_seed},
     {"valid", valid},
     {"valid_sq_norm_equal", valid_sq_norm_equal},
     {"gradient_part", gradient_part},
@@ -162,7 +171,7 @@ int main(void) {
         }
     }
     for (size_t c = 0; c < CALLS; c++) {
-        printf("%-26s %5zu bytes of stack\n", calls[c].name, most[c]);
+        printf("%-30s %5zu bytes of stack\n", calls[c].name, most[c]);
     }
     return taken == 1;
 }

@@ -4,7 +4,7 @@
 //!     cargo run --example client -- 1.5 -2.25 0 4 -0.125
 //!
 //! The randomness is NOT FOR USE: it is the same at each run.
-use jihmeto_pine::{Error, Gradient, Measurement, Pine, PineParam, Rule, FIELD_MODULUS};
+use jihmeto_pine::{Error, Gradient, Measurement, Pine, PineParam, Rule, Seed, FIELD_MODULUS};
 use std::process::ExitCode;
 
 /// What the clients and both servers agree on: gradients of 5 coordinates, of norm up to 16.
@@ -46,14 +46,14 @@ impl NotForUse {
         }
     }
 
-    fn stream(&mut self, len: usize) -> Vec<u8> {
-        (0..len).map(|_| (self.word() >> 56) as u8).collect()
+    fn seed(&mut self) -> Seed {
+        Seed::new(std::array::from_fn(|_| (self.word() >> 56) as u8))
     }
 }
 
-/// What a client sends: the stream to both servers, to each server its row.
+/// What a client sends: the seed to both servers, to each server its row.
 pub struct Report {
-    pub stream: Vec<u8>,
+    pub seed: Seed,
     pub rows: [Vec<u64>; 2],
 }
 
@@ -62,13 +62,13 @@ pub fn report(pine: &Pine, gradient: &[f64], randomness: &mut NotForUse) -> Resu
     let mut tries = 10;
     loop {
         // here the client draws it; a client that is not trusted must not choose it
-        let stream = randomness.stream(pine.stream_len());
-        match pine.encode_with_wr_joint_rand(&gradient, &stream) {
+        let seed = randomness.seed();
+        match pine.encode_with_wr_joint_rand_seed(&gradient, &seed) {
             Ok(encoded) => {
                 let rows = cut(&encoded.measurement, randomness);
-                return Ok(Report { stream, rows });
+                return Ok(Report { seed, rows });
             }
-            // a test may miss by chance: another stream may do
+            // a test may miss by chance: another seed may do
             Err(Error {
                 rule: Rule::WrTest, ..
             }) if tries > 1 => tries -= 1,
@@ -113,9 +113,9 @@ fn main() -> ExitCode {
             println!("the gradient {gradient:?}, encoded and cut");
             for (server, row) in report.rows.iter().enumerate() {
                 println!(
-                    "to server {}: a stream of {} bytes and {} elements, first {}, {}, ..",
+                    "to server {}: a seed of {} bytes and {} elements, first {}, {}, ..",
                     server + 1,
-                    report.stream.len(),
+                    report.seed.bytes().len(),
                     row.len(),
                     row[0],
                     row[1]

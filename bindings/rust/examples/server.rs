@@ -7,7 +7,7 @@
 //! one place, where the circuits look at the whole. Whoever does that sees the report: servers that must not need an
 //! FLP proof, which this crate does not have.
 use client::{inputs, minus, report, NotForUse, Report};
-use jihmeto_pine::{Error, Full, FullShare, Pine, Share, FIELD_MODULUS, JOINT_RAND_LEN};
+use jihmeto_pine::{Error, Full, FullShare, Pine, Seed, Share, FIELD_MODULUS, JOINT_RAND_LEN};
 
 // its main is not called here
 #[allow(dead_code)]
@@ -21,10 +21,10 @@ const GRADIENTS: [[f64; 5]; 3] = [
 ];
 
 /// What one server makes of the row that it was sent: the row, then the results of the tests on its share.
-fn full_share(pine: &Pine, row: &[u64], stream: &[u8]) -> Result<FullShare<Vec<u64>>, Error> {
+fn full_share(pine: &Pine, row: &[u64], seed: &Seed) -> Result<FullShare<Vec<u64>>, Error> {
     // a row that is too short is refused by its length
     let share = Share::new(row.get(..pine.dimension()).unwrap_or(row));
-    let results = pine.run_wr_tests(&share, stream)?;
+    let results = pine.run_wr_tests_seed(&share, seed)?;
     let full = FullShare::new([row, results.row()].concat());
     // refuses a row of another length, and an element that is not below p
     pine.checked_part(&full)?;
@@ -44,8 +44,8 @@ fn whole(shares: &[FullShare<Vec<u64>>; 2]) -> Full<Vec<u64>> {
 fn full_shares(pine: &Pine, report: &Report) -> Result<[FullShare<Vec<u64>>; 2], Error> {
     let [left, right] = &report.rows;
     Ok([
-        full_share(pine, left, &report.stream)?,
-        full_share(pine, right, &report.stream)?,
+        full_share(pine, left, &report.seed)?,
+        full_share(pine, right, &report.seed)?,
     ])
 }
 

@@ -138,6 +138,35 @@ pub fn encode_with_wr_joint_rand(
     })
 }
 
+/// As [`encode_with_wr_joint_rand`], with a seed ([`SEED_LEN`](crate::SEED_LEN)) in the stream's place: it gives what
+/// that gives on the stream that the seed makes. [`Seed`](crate::Seed) says what a seed must be.
+///
+/// # Errors
+///
+/// Those of [`encode_with_wr_joint_rand`]; a seed of another length is [`RowLen`](crate::Rule::RowLen) of row 2.
+pub fn encode_with_wr_joint_rand_seed(
+    param: PineParam,
+    gradient: &[f64],
+    seed: &[u8],
+    measurement: &mut [u64],
+    results: &mut [u64],
+) -> Result<(), Error> {
+    // SAFETY: each pointer is a slice's own, with that slice's length; the borrows keep them apart.
+    result(unsafe {
+        ffi::pine_encode_with_wr_joint_rand_seed(
+            param.into(),
+            gradient.as_ptr(),
+            gradient.len(),
+            seed.as_ptr(),
+            seed.len(),
+            measurement.as_mut_ptr(),
+            measurement.len(),
+            results.as_mut_ptr(),
+            results.len(),
+        )
+    })
+}
+
 /// The wraparound tests alone, on a share of the gradient's elements (`dimension`), with the report's stream
 /// (`stream_len`), into the results (`num_wr_tests`). A result out of range is no refusal here.
 ///
@@ -159,6 +188,32 @@ pub fn run_wr_tests(
             gradient.len(),
             stream.as_ptr(),
             stream.len(),
+            results.as_mut_ptr(),
+            results.len(),
+        )
+    })
+}
+
+/// As [`run_wr_tests`], with the report's seed ([`SEED_LEN`](crate::SEED_LEN)) in the stream's place: it gives what that
+/// gives on the stream that the seed makes.
+///
+/// # Errors
+///
+/// Those of [`run_wr_tests`]; a seed of another length is [`RowLen`](crate::Rule::RowLen) of row 2.
+pub fn run_wr_tests_seed(
+    param: PineParam,
+    gradient: &[u64],
+    seed: &[u8],
+    results: &mut [u64],
+) -> Result<(), Error> {
+    // SAFETY: each pointer is a slice's own, with that slice's length; the borrows keep them apart.
+    result(unsafe {
+        ffi::pine_run_wr_tests_seed(
+            param.into(),
+            gradient.as_ptr(),
+            gradient.len(),
+            seed.as_ptr(),
+            seed.len(),
             results.as_mut_ptr(),
             results.len(),
         )

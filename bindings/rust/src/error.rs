@@ -76,7 +76,8 @@ rules! {
     GradientLen = 9: "the gradient's length is not the dimension",
     /// That is the squared norm as a field number.
     SqNorm = 10: "the squared norm is above its bound",
-    /// By [`WrTestRule::Every`](crate::WrTestRule::Every). The place is the test, from 0. Another stream may do.
+    /// By [`WrTestRule::Every`](crate::WrTestRule::Every). The place is the test, from 0. Another stream or seed may
+    /// do.
     WrTest = 11: "a wraparound test's result is out of range",
     /// The place is its index over the rows of elements that are read, joined in order; of a share that is added to a
     /// file, its index in the share.
@@ -90,7 +91,8 @@ rules! {
     /// The place is its index; of this rule and [`Rule::Coordinate`] the lower index is answered.
     Floor = 17: "the floor of a coordinate is beyond (p - 1) / 2 either way",
     Alpha = 19: "alpha_numerator or alpha_denominator is 0",
-    /// By [`WrTestRule::Enough`](crate::WrTestRule::Enough). The place is how many are in range. Another stream may do.
+    /// By [`WrTestRule::Enough`](crate::WrTestRule::Enough). The place is how many are in range. Another stream or seed
+    /// may do.
     WrTestsInRange = 20: "fewer wraparound tests are in range than num_wr_successes",
     /// With true_sq_norm on; that is the squared norm without reduction modulo p.
     TrueSqNorm = 21: "the true squared norm is above its bound",

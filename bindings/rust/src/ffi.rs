@@ -192,12 +192,32 @@ extern "C" {
         results: *mut u64,
         results_len: usize,
     ) -> Answer;
+    pub fn pine_encode_with_wr_joint_rand_seed(
+        param: Inputs,
+        gradient: *const f64,
+        gradient_len: usize,
+        seed: *const u8,
+        seed_len: usize,
+        measurement: *mut u64,
+        measurement_len: usize,
+        results: *mut u64,
+        results_len: usize,
+    ) -> Answer;
     pub fn pine_run_wr_tests(
         param: Inputs,
         gradient: *const u64,
         gradient_len: usize,
         stream: *const u8,
         stream_len: usize,
+        results: *mut u64,
+        results_len: usize,
+    ) -> Answer;
+    pub fn pine_run_wr_tests_seed(
+        param: Inputs,
+        gradient: *const u64,
+        gradient_len: usize,
+        seed: *const u8,
+        seed_len: usize,
         results: *mut u64,
         results_len: usize,
     ) -> Answer;

@@ -4,7 +4,7 @@ extern crate std;
 use crate::ffi::LAYOUTS;
 use crate::{
     Error, Rule, FIELD_MODULUS, FILE_ENTRY_LEN, FILE_HEADER_LEN, FILE_KEY_LEN, JOINT_RAND_LEN,
-    MAX_FILE_ENTRIES,
+    MAX_FILE_ENTRIES, SEED_LEN,
 };
 use std::format;
 use std::string::{String, ToString};
@@ -101,6 +101,7 @@ fn the_constants_are_the_headers() {
         "#define PINE_FIELD_MODULUS UINT64_C({FIELD_MODULUS:#x})"
     )));
     assert!(text.contains(&format!("#define PINE_JOINT_RAND_LEN {JOINT_RAND_LEN}")));
+    assert!(text.contains(&format!("#define PINE_SEED_LEN {SEED_LEN}")));
     for (name, number) in [
         ("MAX_FILE_ENTRIES", MAX_FILE_ENTRIES),
         ("FILE_HEADER_LEN", FILE_HEADER_LEN),

@@ -3,6 +3,7 @@ use crate::calls::{self, Circuit};
 use crate::error::Error;
 use crate::param::{Derived, PineParam};
 use crate::rows::{Aggregate, Full, FullShare, Gradient, Measurement, Results, Share};
+use crate::seed::Seed;
 use crate::JOINT_RAND_LEN;
 #[cfg(feature = "alloc")]
 use alloc::{vec, vec::Vec};
@@ -156,6 +157,49 @@ impl Pine {
         })
     }
 
+    /// As [`encode_with_wr_joint_rand_into`](Pine::encode_with_wr_joint_rand_into) with the stream that a seed makes,
+    /// which no row holds. A seed that a test refuses may be replaced by another.
+    ///
+    /// # Errors
+    ///
+    /// Rules 7, 8 with 17, 9, 21, 10, 11 or 20, as there; [`RowLen`](crate::Rule::RowLen) of the measurement and the
+    /// results only (places 3 and 4).
+    pub fn encode_with_wr_joint_rand_seed_into(
+        &self,
+        gradient: &Gradient<impl AsRef<[f64]>>,
+        seed: &Seed,
+        measurement: &mut Measurement<impl AsMut<[u64]>>,
+        results: &mut Results<impl AsMut<[u64]>>,
+    ) -> Result<(), Error> {
+        calls::encode_with_wr_joint_rand_seed(
+            self.param,
+            gradient.row(),
+            seed.bytes(),
+            measurement.row_mut(),
+            results.row_mut(),
+        )
+    }
+
+    /// As [`encode_with_wr_joint_rand_seed_into`](Pine::encode_with_wr_joint_rand_seed_into), with both rows given.
+    ///
+    /// # Errors
+    ///
+    /// Rules 8 with 17, 9, 21, 10, 11 or 20, as there.
+    #[cfg(feature = "alloc")]
+    pub fn encode_with_wr_joint_rand_seed(
+        &self,
+        gradient: &Gradient<impl AsRef<[f64]>>,
+        seed: &Seed,
+    ) -> Result<Encoded, Error> {
+        let mut measurement = Measurement::new(vec![0; self.encoded_input_len()]);
+        let mut results = Results::new(vec![0; self.num_wr_tests()]);
+        self.encode_with_wr_joint_rand_seed_into(gradient, seed, &mut measurement, &mut results)?;
+        Ok(Encoded {
+            measurement,
+            results,
+        })
+    }
+
     /// The wraparound tests alone, on a server's share, with the report's stream. A result out of range is no refusal
     /// here: the circuits look at the results.
     ///
@@ -185,6 +229,37 @@ impl Pine {
     ) -> Result<Results<Vec<u64>>, Error> {
         let mut results = Results::new(vec![0; self.num_wr_tests()]);
         self.run_wr_tests_into(share, stream, &mut results)?;
+        Ok(results)
+    }
+
+    /// As [`run_wr_tests_into`](Pine::run_wr_tests_into) with the stream that the report's seed makes, which no row
+    /// holds.
+    ///
+    /// # Errors
+    ///
+    /// Rules 7, 12, as there; [`RowLen`](crate::Rule::RowLen) of the share and the results only (places 1 and 3).
+    pub fn run_wr_tests_seed_into(
+        &self,
+        share: &Share<impl AsRef<[u64]>>,
+        seed: &Seed,
+        results: &mut Results<impl AsMut<[u64]>>,
+    ) -> Result<(), Error> {
+        calls::run_wr_tests_seed(self.param, share.row(), seed.bytes(), results.row_mut())
+    }
+
+    /// As [`run_wr_tests_seed_into`](Pine::run_wr_tests_seed_into), with the results given.
+    ///
+    /// # Errors
+    ///
+    /// Rules 7, 12, as there.
+    #[cfg(feature = "alloc")]
+    pub fn run_wr_tests_seed(
+        &self,
+        share: &Share<impl AsRef<[u64]>>,
+        seed: &Seed,
+    ) -> Result<Results<Vec<u64>>, Error> {
+        let mut results = Results::new(vec![0; self.num_wr_tests()]);
+        self.run_wr_tests_seed_into(share, seed, &mut results)?;
         Ok(results)
     }
 

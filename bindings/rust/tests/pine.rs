@@ -315,6 +315,84 @@ fn aggregates() {
     assert_eq!((agg.row(), decoded), (&[P - 1, P - 1][..], [-1.0, 2.0]));
 }
 
+// 00 01 .. 0f, and the first bytes of its stream as the original's XOF gives them
+const SEED: [u8; SEED_LEN] = [0, 1, 2, 3, 4, 5, 6, 7, 8, 9, 10, 11, 12, 13, 14, 15];
+const STREAM: [u8; 2] = [0x60, 0xaf];
+
+#[test]
+fn a_seed_in_the_streams_place() {
+    let pine = Pine::new(small()).unwrap();
+    let param = pine.param();
+    let seed = Seed::new(SEED);
+    assert_eq!(pine.stream_len(), STREAM.len());
+    let gradient = [1.0, 0.0, 0.0, 0.0];
+    let mut encoded = [7; 20];
+    let (measurement, results) = encoded.split_at_mut(18);
+    encode_with_wr_joint_rand(param, &gradient, &STREAM, measurement, results).unwrap();
+    // as the original answers the seed
+    let expected = [
+        [1, 0, 0, 0, 1, 0, 0, 1, 1, 1],
+        [0, 1, 0, 0, 0, 0, 1, 1, P - 1, 1],
+    ]
+    .concat();
+    assert_eq!(encoded[..], expected);
+    let mut measurement = Measurement::new([7; 18]);
+    let mut results = Results::new([7; 2]);
+    let gradient = Gradient::new(gradient);
+    pine.encode_with_wr_joint_rand_seed_into(&gradient, &seed, &mut measurement, &mut results)
+        .unwrap();
+    assert_eq!([measurement.row(), results.row()].concat(), expected);
+
+    let share = Share::new([1, 2, 3, 4]);
+    pine.run_wr_tests_seed_into(&share, &seed, &mut results)
+        .unwrap();
+    assert_eq!(results.row(), [P - 3, 3]);
+    let mut expected = [7; 2];
+    run_wr_tests(param, share.row(), &STREAM, &mut expected).unwrap();
+    assert_eq!(results.row(), expected);
+}
+
+#[test]
+fn a_seed_of_another_length_is_refused() {
+    let param = small();
+    let long = [SEED, SEED].concat();
+    let mut measurement = [7; 18];
+    let mut results = [7; 2];
+    for len in (0..=32).filter(|&len| len != SEED_LEN) {
+        let seed = &long[..len];
+        let answer = encode_with_wr_joint_rand_seed(
+            param,
+            &[f64::NAN],
+            seed,
+            &mut measurement[1..],
+            &mut results,
+        );
+        assert_eq!(rule(answer), Some((Rule::RowLen, 2)));
+        let answer = run_wr_tests_seed(param, &[P; 4], seed, &mut results[1..]);
+        assert_eq!(rule(answer), Some((Rule::RowLen, 2)));
+    }
+    // row 1 comes before it, rows 3 and 4 and the elements after
+    let answer = run_wr_tests_seed(param, &[P; 3], &STREAM, &mut results);
+    assert_eq!(rule(answer), Some((Rule::RowLen, 1)));
+    let answer = run_wr_tests_seed(param, &[P; 4], &SEED, &mut results);
+    assert_eq!(rule(answer), Some((Rule::Element, 0)));
+    let answer = encode_with_wr_joint_rand_seed(
+        param,
+        &[f64::NAN],
+        &SEED,
+        &mut measurement,
+        &mut results[1..],
+    );
+    assert_eq!(rule(answer), Some((Rule::RowLen, 4)));
+    assert_eq!((measurement, results), ([7; 18], [7; 2]));
+}
+
+#[test]
+fn a_seed_is_not_written_out() {
+    assert_eq!(format!("{:?}", Seed::new(SEED)), "Seed(..)");
+    assert_eq!(Seed::new(SEED).bytes(), &SEED);
+}
+
 #[cfg(feature = "alloc")]
 #[test]
 fn calls_that_give_rows() {
@@ -336,6 +414,13 @@ fn calls_that_give_rows() {
     let mut agg = empty.clone();
     pine.accumulate(&mut agg, &share).unwrap();
     assert_eq!(pine.unshard(&agg, &empty), Ok(vec![1.0, 0.0, 0.0, 0.0]));
+    let seed = Seed::new(SEED);
+    let by_seed = pine.encode_with_wr_joint_rand_seed(&gradient, &seed);
+    assert_eq!(by_seed, pine.encode_with_wr_joint_rand(&gradient, &STREAM));
+    assert_eq!(
+        pine.run_wr_tests_seed(&share, &seed),
+        Ok(by_seed.unwrap().results)
+    );
     let answer = pine.encode_with_wr_joint_rand(&gradient, &[3]);
     assert_eq!(rule(answer), Some((Rule::RowLen, 2)));
     let answer = pine.run_wr_tests(&Share::new([P; 4]), &[3, 0]);

@@ -111,7 +111,7 @@ fn example(words: &[&str]) -> Output {
 fn the_client_sends_two_rows() {
     let lines = said(&example(&["client"]));
     for server in 1..=2 {
-        let start = format!("to server {server}: a stream of 20 bytes and 235 elements, first ");
+        let start = format!("to server {server}: a seed of 16 bytes and 235 elements, first ");
         assert!(lines.contains(&start), "{lines}");
     }
     assert!(lines.contains("NOT FOR USE"));

@@ -46,6 +46,7 @@ fn file_both(
 pub fn report_in(
     param: PineParam,
     key: usize,
+    seeded: bool,
     left: &mut [u64],
     right: &mut [u64],
     measurement: &mut [u64],
@@ -59,6 +60,7 @@ pub fn report_in(
     let made = report::make(
         param,
         key,
+        seeded,
         measurement,
         results,
         left_share,
@@ -90,6 +92,7 @@ fn fresh_report(key: usize, left: &mut [u64], right: &mut [u64]) -> bool
     report_in(
         report::param(),
         key,
+        true,
         left,
         right,
         &mut measurement,
@@ -117,6 +120,7 @@ fn same_as_fresh(
     let made = report::make(
         report::param(),
         key,
+        false,
         &mut measurement_2,
         &mut results_2,
         &mut left_share_2,
@@ -133,7 +137,7 @@ fn same_as_fresh(
         & row::same(full, &full_2)
 }
 
-// The first day: fresh rows for each report. How many were filed.
+// The first day: fresh rows for each report, and a seed. How many were filed.
 pub fn first(left: &mut [u64], right: &mut [u64]) -> u64 {
     begin(left, right);
     let mut filed = 0;
@@ -168,6 +172,7 @@ fn second_report(
     let filed = report_in(
         report::param(),
         key,
+        false,
         left,
         right,
         measurement,
@@ -212,7 +217,7 @@ fn second_in(
     counts
 }
 
-// The second day: one set of rows, which are not fresh.
+// The second day: one set of rows, which are not fresh. The streams are lent.
 pub fn second(left: &mut [u64], right: &mut [u64]) -> Counts {
     let mut measurement = [0u64; 96];
     let mut results = [0u64; 4];
@@ -242,9 +247,9 @@ pub fn damaged(left: &mut [u64], key: usize) -> Answer
     requires { ⌜ key < 24 ⌝ }
 {
     let mut share = [0u64; 100];
-    made_up::elements(made_up::seed(key, made_up::CUT), &mut share);
+    made_up::elements(made_up::begin(key, made_up::CUT), &mut share);
     share[2] = field64::P;
-    let tested = report::test(report::param(), key, &mut share);
+    let tested = report::test(report::param(), key, true, &mut share);
     let filed = filing::file(report::param(), left, key, &share);
     tested.or(filed)
 }
@@ -260,6 +265,7 @@ pub fn withdrawn(left: &mut [u64], right: &mut [u64], key: usize) -> Answer
     let made = report::client(
         report::param(),
         key,
+        false,
         &mut measurement,
         &mut results,
         &mut left_share,

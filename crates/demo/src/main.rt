@@ -23,12 +23,11 @@ fn lengths_are_derived() -> bool {
         && pine.encoded_input_len == report::ENCODED_LEN as u64
         && pine.num_wr_tests == report::TESTS as u64
         && pine.input_len == report::INPUT_LEN as u64
-        && derived.stream_len == report::STREAM_LEN as u64
         && derived.flp.joint_rand_len == 3
 }
 
 fn first_day(left: &mut [u64], right: &mut [u64]) {
-    print::text(b"day 1: fresh rows for each report\n");
+    print::text(b"day 1: fresh rows and a seed for each report\n");
     let filed = day::first(left, right);
     print::counted(
         filed,
@@ -40,7 +39,9 @@ fn first_day(left: &mut [u64], right: &mut [u64]) {
 }
 
 fn second_day(left: &mut [u64], right: &mut [u64]) {
-    print::text(b"day 2: the same reports, in rows left from the last caller\n");
+    print::text(
+        b"day 2: the same gradients, the streams lent, in rows left from the last caller\n",
+    );
     let counts = day::second(left, right);
     print::counted(counts.filed, b" of 24 reports filed\n");
     print::counted(
@@ -50,10 +51,10 @@ fn second_day(left: &mut [u64], right: &mut [u64]) {
 }
 
 fn withdrawal(left: &mut [u64], right: &mut [u64]) {
-    print::text(b"controller 1, valve 5 withdraws after the sums have begun\n");
-    table::without(left, right, 4);
-    day::withdrawn(left, right, 4);
-    table::nothing_left(left, right, 4);
+    print::text(b"controller 1, valve 12 withdraws after the sums have begun\n");
+    table::without(left, right, 11);
+    day::withdrawn(left, right, 11);
+    table::nothing_left(left, right, 11);
 }
 
 fn trial_block(left: &mut [u64], right: &mut [u64]) {
@@ -61,17 +62,17 @@ fn trial_block(left: &mut [u64], right: &mut [u64]) {
     print::text(b"a trial block with the multiplier 1/2: the tests' bound is ");
     print::counted(pine.wr_test_bound(), b", not 4096, and a measurement has ");
     print::counted(pine.encoded_input_len, b" elements\n");
-    print::text(b"controller 1, valve 9: ");
-    trial::print(8);
-    print::text(b"; valve 5: ");
-    trial::print(4);
-    print::text(b"\nwhere 3 of the 4 tests are enough, valve 5: ");
-    if trial::file(4, left, right) {
+    print::text(b"controller 1, valve 10: ");
+    trial::print(9);
+    print::text(b"; valve 12: ");
+    trial::print(11);
+    print::text(b"\nwhere 3 of the 4 tests are enough, valve 12: ");
+    if trial::file(11, left, right) {
         print::text(b"encoded, cut, tested by both servers, valid and filed\n");
     } else {
         print::text(b"not filed\n");
     }
-    table::filed_again(left, right, 4);
+    table::filed_again(left, right, 11);
 }
 
 fn broken_probe() {

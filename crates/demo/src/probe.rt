@@ -5,7 +5,7 @@ use pine::WrTestRule;
 use rules::Answer;
 
 // Times 2^6 the first two coordinates are 2^32 - 1 and 2^16, and the sum of their squares is p. One stream
-// in 256 leaves both out of all four tests, as this one does.
+// in 256 leaves both out of all four tests, as this one does: it was chosen, and is lent as it is.
 fn encode(true_sq_norm: bool) -> Answer {
     let param = report::param_with(4, 87, 10, WrTestRule::Every, true_sq_norm);
     let gradient = [67108863.984375f64, 1024.0, 0.0, 0.0];

@@ -9,8 +9,6 @@ use rules::Answer;
 // The lengths that these parameters derive; main tests them.
 pub const DIMENSION: usize = 4;
 
-pub const STREAM_LEN: usize = 4;
-
 pub const ENCODED_LEN: usize = 96;
 
 pub const TESTS: usize = 4;
@@ -57,16 +55,29 @@ pub fn short() -> Answer {
 }
 
 // 1. The client encodes its gradient: the measurement is the gradient as field numbers, and the bits
-// that show its norm and its tests to be in range. Both servers know the stream of a report.
+// that show its norm and its tests to be in range. The random bytes of its tests come of a seed of 16
+// bytes, or are lent as they are: the stream. Both servers know it.
 pub fn encode(
     param: PineParam,
     key: usize,
+    seeded: bool,
     measurement: &mut [u64],
     results: &mut [u64],
 ) -> Answer {
     let mut gradient = [0.0f64; 4];
-    let mut stream = [0u8; 4];
     made_up::gradient(key, &mut gradient);
+    if seeded {
+        let mut seed = [0u8; 16];
+        made_up::seed(key, &mut seed);
+        return encode::encode_with_wr_joint_rand_seed(
+            param,
+            &gradient,
+            &seed,
+            measurement,
+            results,
+        );
+    }
+    let mut stream = [0u8; 4];
     made_up::stream(key, &mut stream);
     encode::encode_with_wr_joint_rand(param, &gradient, &stream, measurement, results)
 }
@@ -74,21 +85,37 @@ pub fn encode(
 // 2. The client cuts the measurement in two: the left share is random, the right one what is left. Each
 // begins a row with room for a full share.
 pub fn cut(key: usize, measurement: &[u64], left: &mut [u64], right: &mut [u64]) {
-    made_up::elements(made_up::seed(key, made_up::CUT), left);
+    made_up::elements(made_up::begin(key, made_up::CUT), left);
     row::subtract(measurement, left, right);
+}
+
+// The tests alone, with the report's seed or stream.
+fn run_tests(
+    param: PineParam,
+    key: usize,
+    seeded: bool,
+    gradient: &[u64],
+    results: &mut [u64],
+) -> Answer {
+    if seeded {
+        let mut seed = [0u8; 16];
+        made_up::seed(key, &mut seed);
+        return wr_tests::run_wr_tests_seed(param, gradient, &seed, results);
+    }
+    let mut stream = [0u8; 4];
+    made_up::stream(key, &mut stream);
+    wr_tests::run_wr_tests(param, gradient, &stream, results)
 }
 
 // 3. A server runs the wraparound tests alone on the first d elements of its share, and puts the results
 // behind it: that is its full share.
-pub fn test(param: PineParam, key: usize, share: &mut [u64]) -> Answer {
+pub fn test(param: PineParam, key: usize, seeded: bool, share: &mut [u64]) -> Answer {
     if share.len() < DIMENSION + TESTS {
         return short();
     }
     let encoded_len = share.len() - TESTS;
-    let mut stream = [0u8; 4];
     let mut results = [0u64; 4];
-    made_up::stream(key, &mut stream);
-    let answer = wr_tests::run_wr_tests(param, &share[0..DIMENSION], &stream, &mut results);
+    let answer = run_tests(param, key, seeded, &share[0..DIMENSION], &mut results);
     if answer.number == 0 {
         row::copy(&results, &mut share[encoded_len..]);
     }
@@ -99,7 +126,7 @@ pub fn test(param: PineParam, key: usize, share: &mut [u64]) -> Answer {
 // the same by the FLP's proof.)
 pub fn is_valid(param: PineParam, key: usize, full: &[u64]) -> bool {
     let mut joint_rand = [0u64; 3];
-    made_up::elements(made_up::seed(key, made_up::JOINT_RAND), &mut joint_rand);
+    made_up::elements(made_up::begin(key, made_up::JOINT_RAND), &mut joint_rand);
     let main = validity::valid(param, 1, full, &joint_rand);
     let equal = validity::valid_sq_norm_equal(param, 1, full);
     let main_answer = main.answer.or(equal.answer);
@@ -120,12 +147,13 @@ pub fn has_parts(param: PineParam, full: &[u64], results: &[u64]) -> bool {
 pub fn client(
     param: PineParam,
     key: usize,
+    seeded: bool,
     measurement: &mut [u64],
     results: &mut [u64],
     left: &mut [u64],
     right: &mut [u64],
 ) -> Answer {
-    let encoded = encode(param, key, measurement, results);
+    let encoded = encode(param, key, seeded, measurement, results);
     if encoded.number == 0 {
         cut(key, measurement, left, right);
     }
@@ -133,9 +161,15 @@ pub fn client(
 }
 
 // What the two servers do, each alone: step 3.
-fn servers(param: PineParam, key: usize, left: &mut [u64], right: &mut [u64]) -> Answer {
-    let left_tested = test(param, key, left);
-    let right_tested = test(param, key, right);
+fn servers(
+    param: PineParam,
+    key: usize,
+    seeded: bool,
+    left: &mut [u64],
+    right: &mut [u64],
+) -> Answer {
+    let left_tested = test(param, key, seeded, left);
+    let right_tested = test(param, key, seeded, right);
     left_tested.or(right_tested)
 }
 
@@ -143,17 +177,18 @@ fn servers(param: PineParam, key: usize, left: &mut [u64], right: &mut [u64]) ->
 pub fn make(
     param: PineParam,
     key: usize,
+    seeded: bool,
     measurement: &mut [u64],
     results: &mut [u64],
     left: &mut [u64],
     right: &mut [u64],
     full: &mut [u64],
 ) -> Answer {
-    let encoded = client(param, key, measurement, results, left, right);
+    let encoded = client(param, key, seeded, measurement, results, left, right);
     if encoded.number != 0 {
         return encoded;
     }
-    let tested = servers(param, key, left, right);
+    let tested = servers(param, key, seeded, left, right);
     if tested.number == 0 {
         row::add(left, right, full);
     }

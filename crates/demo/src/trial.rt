@@ -13,13 +13,14 @@ pub fn param(wr_test_rule: WrTestRule) -> PineParam {
 }
 
 // 9. A smaller bound makes a shorter measurement. It also refuses more reports, whose tests have results
-// beyond it: such a client takes another stream.
+// beyond it: such a client takes another seed.
 fn encode(key: usize) -> Answer {
     let mut measurement = [0u64; 80];
     let mut results = [0u64; 4];
     report::encode(
         param(WrTestRule::Every),
         key,
+        true,
         &mut measurement,
         &mut results,
     )
@@ -42,6 +43,7 @@ pub fn file(key: usize, left: &mut [u64], right: &mut [u64]) -> bool
     day::report_in(
         param(WrTestRule::Enough),
         key,
+        true,
         left,
         right,
         &mut measurement,

@@ -117,14 +117,8 @@ fn of_vectors(name: &[u8], line: &[u8], c: Cursor, out: &mut [u8], at: usize) ->
     of_loads(name, line, c, out, at)
 }
 
-// The commands on a report and on the circuits, and those above.
-fn of_reports(name: &[u8], line: &[u8], c: Cursor, out: &mut [u8], at: usize) -> usize {
-    if check::same(name, b"encode") {
-        return reports::encode(line, c, out, at);
-    }
-    if check::same(name, b"wrtests") {
-        return reports::wrtests(line, c, out, at);
-    }
+// The commands on the circuits, and those above.
+fn of_circuits(name: &[u8], line: &[u8], c: Cursor, out: &mut [u8], at: usize) -> usize {
     if check::same(name, b"valid") {
         return circuits::valid(line, c, out, at);
     }
@@ -132,6 +126,23 @@ fn of_reports(name: &[u8], line: &[u8], c: Cursor, out: &mut [u8], at: usize) ->
         return circuits::valideq(line, c, out, at);
     }
     of_vectors(name, line, c, out, at)
+}
+
+// The commands on a report, and those above.
+fn of_reports(name: &[u8], line: &[u8], c: Cursor, out: &mut [u8], at: usize) -> usize {
+    if check::same(name, b"encode") {
+        return reports::encode(line, c, out, at, false);
+    }
+    if check::same(name, b"wrtests") {
+        return reports::wrtests(line, c, out, at, false);
+    }
+    if check::same(name, b"encodeseed") {
+        return reports::encode(line, c, out, at, true);
+    }
+    if check::same(name, b"wrtestsseed") {
+        return reports::wrtests(line, c, out, at, true);
+    }
+    of_circuits(name, line, c, out, at)
 }
 
 // The commands that take out of an aggregate, and those above.

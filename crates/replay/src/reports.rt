@@ -1,4 +1,4 @@
-// The commands on a report: encoding, and the wraparound tests alone.
+// The commands on a report: encoding, and the wraparound tests alone. The bytes of the tests are a row's, or come of a seed.
 use crate::inputs::lens_of;
 use crate::inputs::lent_row;
 use crate::inputs::lent_rows;
@@ -11,19 +11,35 @@ use lines::row;
 use lines::words;
 use lines::words::Cursor;
 use pine::PineParam;
+use rules::Answer;
+
+fn make_encode(
+    seeded: bool,
+    param: PineParam,
+    gradient: &[f64],
+    bytes: &[u8],
+    measurement: &mut [u64],
+    results: &mut [u64],
+) -> Answer {
+    if seeded {
+        return encode::encode_with_wr_joint_rand_seed(param, gradient, bytes, measurement, results);
+    }
+    encode::encode_with_wr_joint_rand(param, gradient, bytes, measurement, results)
+}
 
 fn answer_encode(
+    seeded: bool,
     param: PineParam,
     out: &mut [u8],
     at: usize,
     gradient: &[f64],
-    stream: &[u8],
+    bytes: &[u8],
     measurement: &mut [u64],
     results: &mut [u64],
 ) -> usize {
     row::fill(measurement);
     row::fill(results);
-    let answer = encode::encode_with_wr_joint_rand(param, gradient, stream, measurement, results);
+    let answer = make_encode(seeded, param, gradient, bytes, measurement, results);
     if answer.number == 0 {
         ok_two_rows(out, at, measurement, results)
     } else {
@@ -32,23 +48,23 @@ fn answer_encode(
     }
 }
 
-fn encode_in(
+// Encodes what was read. The line goes on with the lengths of the rows that are lent, or ends.
+fn encode_rows(
     line: &[u8],
     c: Cursor,
     out: &mut [u8],
     at: usize,
-    gradient: &mut [f64],
-    stream: &mut [u8],
+    seeded: bool,
+    param: PineParam,
+    gradient: &[f64],
+    bytes: &[u8],
     measurement: &mut [u64],
     results: &mut [u64],
 ) -> usize {
-    let read = read_param(line, c);
-    let gradient_row = words::doubles(line, read.next, gradient);
-    let stream_row = words::bytes(line, gradient_row.next, stream);
-    let lens = lens_of(read.param);
+    let lens = lens_of(param);
     let lent = lent_rows(
         line,
-        stream_row.next,
+        c,
         [lens.measurement, lens.results],
         measurement.len(),
         results.len(),
@@ -56,24 +72,53 @@ fn encode_in(
     if !lent.ok {
         return bad(out, at);
     }
-    let n = gradient_row.len;
-    let s = stream_row.len;
     let m = lent.first;
     let t = lent.second;
     answer_encode(
-        read.param,
+        seeded,
+        param,
         out,
         at,
-        &gradient[0..n],
-        &stream[0..s],
+        gradient,
+        bytes,
         &mut measurement[0..m],
         &mut results[0..t],
     )
 }
 
-pub fn encode(line: &[u8], c: Cursor, out: &mut [u8], at: usize) -> usize {
+fn encode_in(
+    line: &[u8],
+    c: Cursor,
+    out: &mut [u8],
+    at: usize,
+    seeded: bool,
+    gradient: &mut [f64],
+    bytes: &mut [u8],
+    measurement: &mut [u64],
+    results: &mut [u64],
+) -> usize {
+    let read = read_param(line, c);
+    let gradient_row = words::doubles(line, read.next, gradient);
+    let bytes_row = words::bytes(line, gradient_row.next, bytes);
+    let n = gradient_row.len;
+    let s = bytes_row.len;
+    encode_rows(
+        line,
+        bytes_row.next,
+        out,
+        at,
+        seeded,
+        read.param,
+        &gradient[0..n],
+        &bytes[0..s],
+        measurement,
+        results,
+    )
+}
+
+pub fn encode(line: &[u8], c: Cursor, out: &mut [u8], at: usize, seeded: bool) -> usize {
     let mut gradient = [0.0f64; 8192];
-    let mut stream = [0u8; 262144];
+    let mut bytes = [0u8; 262144];
     let mut measurement = [0u64; 16384];
     let mut results = [0u64; 8192];
     encode_in(
@@ -81,23 +126,38 @@ pub fn encode(line: &[u8], c: Cursor, out: &mut [u8], at: usize) -> usize {
         c,
         out,
         at,
+        seeded,
         &mut gradient,
-        &mut stream,
+        &mut bytes,
         &mut measurement,
         &mut results,
     )
 }
 
+fn make_wrtests(
+    seeded: bool,
+    param: PineParam,
+    gradient: &[u64],
+    bytes: &[u8],
+    results: &mut [u64],
+) -> Answer {
+    if seeded {
+        return wr_tests::run_wr_tests_seed(param, gradient, bytes, results);
+    }
+    wr_tests::run_wr_tests(param, gradient, bytes, results)
+}
+
 fn answer_wrtests(
+    seeded: bool,
     param: PineParam,
     out: &mut [u8],
     at: usize,
     gradient: &[u64],
-    stream: &[u8],
+    bytes: &[u8],
     results: &mut [u64],
 ) -> usize {
     row::fill(results);
-    let answer = wr_tests::run_wr_tests(param, gradient, stream, results);
+    let answer = make_wrtests(seeded, param, gradient, bytes, results);
     if answer.number == 0 {
         ok_elements(out, at, results)
     } else {
@@ -110,34 +170,45 @@ fn wrtests_in(
     c: Cursor,
     out: &mut [u8],
     at: usize,
+    seeded: bool,
     gradient: &mut [u64],
-    stream: &mut [u8],
+    bytes: &mut [u8],
     results: &mut [u64],
 ) -> usize {
     let read = read_param(line, c);
     let gradient_row = words::elements(line, read.next, gradient);
-    let stream_row = words::bytes(line, gradient_row.next, stream);
+    let bytes_row = words::bytes(line, gradient_row.next, bytes);
     let lens = lens_of(read.param);
-    let lent = lent_row(line, stream_row.next, lens.results, results.len());
+    let lent = lent_row(line, bytes_row.next, lens.results, results.len());
     if !lent.ok {
         return bad(out, at);
     }
     let n = gradient_row.len;
-    let s = stream_row.len;
+    let s = bytes_row.len;
     let t = lent.len;
     answer_wrtests(
+        seeded,
         read.param,
         out,
         at,
         &gradient[0..n],
-        &stream[0..s],
+        &bytes[0..s],
         &mut results[0..t],
     )
 }
 
-pub fn wrtests(line: &[u8], c: Cursor, out: &mut [u8], at: usize) -> usize {
+pub fn wrtests(line: &[u8], c: Cursor, out: &mut [u8], at: usize, seeded: bool) -> usize {
     let mut gradient = [0u64; 8192];
-    let mut stream = [0u8; 262144];
+    let mut bytes = [0u8; 262144];
     let mut results = [0u64; 8192];
-    wrtests_in(line, c, out, at, &mut gradient, &mut stream, &mut results)
+    wrtests_in(
+        line,
+        c,
+        out,
+        at,
+        seeded,
+        &mut gradient,
+        &mut bytes,
+        &mut results,
+    )
 }

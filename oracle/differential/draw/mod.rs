@@ -11,6 +11,7 @@ use crate::{
     case::{Call, Case, Row},
     param::{Param, Sizes},
     random::Random,
+    seed::SEED_LEN,
 };
 pub use history::Calls;
 
@@ -22,29 +23,36 @@ fn written(random: &mut Random, len: usize) -> Row {
     Row::Written(random.words(len))
 }
 
-fn encode(random: &mut Random) -> Case {
+/// A seed, where the call takes one, or this stream.
+fn bytes(random: &mut Random, call: Call, stream: impl FnOnce(&mut Random) -> Vec<u8>) -> Row {
+    Row::Bytes(match call {
+        Call::EncodeSeed | Call::RunWrTestsSeed => reports::any_stream(random, SEED_LEN),
+        _ => stream(random),
+    })
+}
+
+fn encode(random: &mut Random, call: Call) -> Case {
     let mut param = params::for_rows(random);
     let numbers = reports::numbers(random, &mut param);
     let gradient = reports::gradient(random, &numbers, param.f);
     let sizes = Sizes::of(&param);
-    let stream = reports::stream(random, &numbers, &sizes, &param);
     let rows = vec![
         Row::Doubles(gradient),
-        Row::Stream(stream),
+        bytes(random, call, |random| reports::stream(random, &numbers, &sizes, &param)),
         written(random, sizes.measurement),
         written(random, param.t as usize),
     ];
-    with_rows(Call::Encode, param, rows)
+    with_rows(call, param, rows)
 }
 
-fn run_wr_tests(random: &mut Random) -> Case {
+fn run_wr_tests(random: &mut Random, call: Call) -> Case {
     let param = params::for_rows(random);
     let rows = vec![
         Row::Elements(elements::row(random, param.d as usize)),
-        Row::Stream(reports::any_stream(random, Sizes::of(&param).stream)),
+        bytes(random, call, |random| reports::any_stream(random, Sizes::of(&param).stream)),
         written(random, param.t as usize),
     ];
-    with_rows(Call::RunWrTests, param, rows)
+    with_rows(call, param, rows)
 }
 
 fn circuit(random: &mut Random, call: Call) -> Case {
@@ -103,8 +111,8 @@ pub fn case(random: &mut Random, call: Call) -> Case {
         Call::CheckParam | Call::Derive => with_rows(call, params::any(random), vec![]),
         Call::F64ToField => return singles::f64_to_field(random),
         Call::FieldToF64 => return singles::field_to_f64(random),
-        Call::Encode => encode(random),
-        Call::RunWrTests => run_wr_tests(random),
+        Call::Encode | Call::EncodeSeed => encode(random, call),
+        Call::RunWrTests | Call::RunWrTestsSeed => run_wr_tests(random, call),
         Call::Valid | Call::ValidSqNormEqual => circuit(random, call),
         Call::GradientPart | Call::CheckedPart | Call::ResultsPart => part(random, call),
         Call::EmptyAggregate => empty_aggregate(random),

@@ -9,10 +9,10 @@ use Rattle.demo.proofs.made_up.elements.Statement.{statement}
 use Rattle.demo.proofs.made_up.elements.Tie as tie
 
 abbrev Inv-loop : tie.InvT-loop
-Inv-loop seed row₀ state₀ i₀ row state i = (length row ≡ length row₀) × (i ≤ length row₀)
+Inv-loop first row₀ state₀ i₀ row state i = (length row ≡ length row₀) × (i ≤ length row₀)
 
 abbrev μ-loop : tie.MeasureT-loop
-μ-loop seed row₀ state₀ i₀ row state i = length row₀ - i
+μ-loop first row₀ state₀ i₀ row state i = length row₀ - i
 
 loop-holds : tie.Need-loop-holds Inv-loop μ-loop
 loop-holds c = search needs

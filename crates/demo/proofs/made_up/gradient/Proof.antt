@@ -14,8 +14,8 @@ Inv-loop key row₀ state₀ i₀ row state i = (length row ≡ length row₀) �
 abbrev μ-loop : tie.MeasureT-loop
 μ-loop key row₀ state₀ i₀ row state i = length row₀ - i
 
-seed-requires : tie.Need-seed-requires Inv-loop μ-loop
-seed-requires c κs = search needs
+begin-requires : tie.Need-begin-requires Inv-loop μ-loop
+begin-requires c κs = search needs
 
 loop-holds : tie.Need-loop-holds Inv-loop μ-loop
 loop-holds c = search needs
@@ -53,7 +53,7 @@ gradient-spec =
     (tie.spec
     Inv-loop
     μ-loop
-    seed-requires
+    begin-requires
     loop-holds
     next-requires
     coordinate-requires

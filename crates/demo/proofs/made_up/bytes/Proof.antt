@@ -1,21 +1,18 @@
--- `demo::made_up::stream` is safe and ends. The invariant: the rows keep their length.
+-- `demo::made_up::bytes` is safe and ends. The invariant: the rows keep their length.
 -- Assumes nothing.
 use borrow.Author.Needs.{needs}
 use Prim.Native.Nat.{_≤_, _-_}
 use mathlib.Core.Path.{_≡_}
 use native.Mathlib.Omega.{arith}
 use lib.ListN.{length, length-set}
-use Rattle.demo.proofs.made_up.stream.Statement.{statement}
-use Rattle.demo.proofs.made_up.stream.Tie as tie
+use Rattle.demo.proofs.made_up.bytes.Statement.{statement}
+use Rattle.demo.proofs.made_up.bytes.Tie as tie
 
 abbrev Inv-loop : tie.InvT-loop
-Inv-loop key row₀ state₀ i₀ row state i = (length row ≡ length row₀) × (i ≤ length row₀)
+Inv-loop first row₀ state₀ i₀ row state i = (length row ≡ length row₀) × (i ≤ length row₀)
 
 abbrev μ-loop : tie.MeasureT-loop
-μ-loop key row₀ state₀ i₀ row state i = length row₀ - i
-
-seed-requires : tie.Need-seed-requires Inv-loop μ-loop
-seed-requires c κs = search needs
+μ-loop first row₀ state₀ i₀ row state i = length row₀ - i
 
 loop-holds : tie.Need-loop-holds Inv-loop μ-loop
 loop-holds c = search needs
@@ -44,13 +41,12 @@ same-length c = search needs
 returns : tie.Need-returns Inv-loop μ-loop
 returns c = search needs
 
-pub stream-spec : {M : Type 1} → statement M
-stream-spec =
+pub bytes-spec : {M : Type 1} → statement M
+bytes-spec =
     tie.close
     (tie.spec
     Inv-loop
     μ-loop
-    seed-requires
     loop-holds
     next-requires
     cast-row
