@@ -1,0 +1,3 @@
+-- Laws of the tiles.
+pub mod States
+pub mod Sides
