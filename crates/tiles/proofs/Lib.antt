@@ -1,3 +1,3 @@
--- Laws of the tiles.
-pub mod States
-pub mod Sides
+-- What the proofs of the functions cite: `States` of the states and what they draw, `Sides` of what a tile adds to the results.
+mod States
+mod Sides

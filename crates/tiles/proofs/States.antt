@@ -1,15 +1,14 @@
 -- The states of a block's tests, and what they draw side by side. Assumes nothing.
-use mathlib.Core.Path.{_≡_, refl, sym, ap, ap₂, subst, _∙_}
+use mathlib.Core.Path.{_≡_, refl, sym, ap, ap₂, _∙_}
 use mathlib.Core.List.{List, [], _∷_, _++_, append-assoc, append-nil}
 use Prim.Native.Nat.{ℕ, zero, suc, _+_, _-_, _*_, _<_, _≤_}
 use native.Mathlib.Nat.{zero-mul, suc-mul, mul-le-mul, mul-le-mul-right, le-trans, lt-of-not-le}
-use native.Mathlib.Numerals.{add-one}
 use native.Mathlib.Decide.{decLe}
 use native.Mathlib.Omega.{arith}
 use lib.ListN.{length, getD, take, drop, set, length-append}
 use lib.Seq.{take-suc, take-suc-set, drop-cons, take-at, set-at, getD-at, length-take-le}
 use Rattle.turboshake.specs.declared.Sponge.{Sponge}
-use Rattle.turboshake.specs.Stream.{sponge, moved, drawn, after}
+use Rattle.turboshake.specs.Stream.{moved, drawn, after}
 use Rattle.turboshake.proofs.Moved.{moved-full, moved-part}
 use Rattle.turboshake.proofs.Drawn.{length-drawn, drawn-add, after-add}
 use Rattle.tiles.specs.Tiles.{startsOf, tileOf, allAfter, Ready}

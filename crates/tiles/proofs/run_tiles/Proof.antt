@@ -1,6 +1,5 @@
 -- `tiles::run_tiles` meets its contract: after the bytes before j, each result is over the first 4j coordinates, and each state is j bytes on. Assumes nothing.
 use mathlib.Core.Path.{_≡_, refl, sym, ap, subst, _∙_}
-use mathlib.Core.List.{List}
 use Prim.Native.Nat.{ℕ, _+_, _-_, _*_, _≤_, _<_}
 use native.Mathlib.Omega.{arith}
 use borrow.Author.Needs.{needs}
@@ -11,7 +10,7 @@ use Rattle.doubles.specs.Doubles.{floorLimit64}
 use Rattle.flp.specs.Tests.{testsOf}
 use Rattle.flp.specs.Encode.{elements}
 use Rattle.flp.proofs.Gradient.{length-elements}
-use Rattle.columns.proofs.Swapped.{Fits, group-fits, group-cut, part-long, groups-start, groups-below, groups-next, groups-end, same-room}
+use Rattle.columns.proofs.Swapped.{Fits, group-fits, group-cut, part-long, groups-start, groups-below, groups-next, groups-end}
 use Rattle.gradient.proofs.Norm.{usable-take, usable-drop, elements-cut}
 use Rattle.tiles.specs.Tiles.{tileOf, allAfter, Ready}
 use Rattle.tiles.proofs.States.{after-none, after-more, all-ready, roomy, states-long}
