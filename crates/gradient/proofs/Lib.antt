@@ -1,2 +1,2 @@
 -- What the proofs of the functions cite: `Norm` of the squared norm and of the parts of a gradient.
-mod Norm
+pub mod Norm

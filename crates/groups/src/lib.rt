@@ -20,7 +20,7 @@ pub fn at_most(k: usize, most: usize) -> usize
 
 // The group from byte j on, up to so many bytes, of tests with `per` bytes on d coordinates.
 pub fn group_from(j: usize, width: usize, per: usize, d: usize) -> Group
-    requires { ⌜ (j < per) × ((width ≤ 64) × (per < 65536)) ⌝ }
+    requires { ⌜ (j < per) × ((width ≤ 256) × (per < 65536)) ⌝ }
     ensures { λ r. ⌜ r ≡ groupFrom j width per d ⌝ }
 {
     let end = at_most(j + width, per);

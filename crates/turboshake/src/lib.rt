@@ -258,6 +258,20 @@ impl Sponge {
         }
         Sponge { lanes, at }
     }
+
+    // The state n bytes of the output on: for bytes that nobody wants yet.
+    pub fn skip(self, n: usize) -> Sponge
+        requires { ⌜ (self .at < 168) × (n + 168 < 2 ^ 64) ⌝ }
+        ensures { λ r. ⌜ (r ≡ after n self) × (r .at < 168) ⌝ }
+    {
+        let mut lanes = self.lanes;
+        let mut at = self.at + n;
+        while RATE <= at {
+            keccak::permute(&mut lanes);
+            at -= RATE;
+        }
+        Sponge { lanes, at }
+    }
 }
 
 // Fills a row with the output for a message and the domain byte d, 0x01 to 0x7f.

@@ -76,8 +76,20 @@ module _ (p per : ℕ) (xs : List ℕ) (s : Sponge) where
       ap (take e) (sym (append-assoc (take t rs) part rest)) ∙ ap (λ (n : ℕ). take n ((take t rs ++ part) ++ rest)) (sym both) ∙ take-append-seam (take t rs ++ part) rest
       ∙ ap₂ (λ (a b : List ℕ). a ++ b) d is ∙ sym (more t (e - t)) ∙ ap (λ (n : ℕ). testsOf p per n (drawn (n * per) s) xs) sum
 
+  -- with those of the tests that took the next bytes of the stream themselves
+  pub next-drawn : (t e n : ℕ) (rs part rest : List ℕ) (u : Sponge) → (t ≤ e) × (e ≤ length rs) → length part ≡ e - t → n ≡ e - t → u ≡ after (t * per) s → Done t rs → part ≡ testsOf p per n (drawn (n * per) u) xs → Done e (take t rs ++ (part ++ rest))
+  next-drawn t e n rs part rest u h l en on d is =
+      let bytes = drawn ((e - t) * per) (after (t * per) s) in
+      let long : length bytes ≡ (e - t) * per = length-drawn ((e - t) * per) (after (t * per) s) in
+      next t e n bytes rs part rest h l en (le-of-eq (sym long)) (take-all ((e - t) * per) bytes (le-of-eq long)) d (is ∙ ap₂ (λ (m : ℕ) (v : Sponge). testsOf p per n (drawn (m * per) v) xs) en on)
+
   pub all : (t : ℕ) (rs : List ℕ) → t ≡ length rs → Done t rs → rs ≡ testsOf p per t (drawn (t * per) s) xs
   all t rs h d = sym (take-all t rs (omega (arith, h))) ∙ d
+
+-- no test has no result
+pub no-results : (p per : ℕ) (bytes xs rs rest : List ℕ) → rs ≡ testsOf p per 0 bytes xs → rs ++ rest ≡ rest
+unfolding testsOf groups
+no-results p per bytes xs rs rest e = ap (λ (r : List ℕ). r ++ rest) e
 
 -- a block: the tests from t on, up to e, of T; a buffer of n bytes holds those of so many
 module _ (per n T t e : ℕ) (h : (0 < per) × (per ≤ n)) (more : t < T) (is : e ≡ min (t + n / per) T) where

@@ -2,7 +2,7 @@
 use mathlib.Core.Path.{_≡_, refl, sym, ap, _∙_}
 use mathlib.Core.Bool.{Bool, true, false}
 use mathlib.Core.List.{List, [], append-nil}
-use Prim.Native.Nat.{ℕ, _≤_, _<_}
+use Prim.Native.Nat.{ℕ, _*_, _≤_, _<_}
 use native.Mathlib.Omega.{arith}
 use lib.ListN.{length}
 use lib.Dec.{eqb}
@@ -14,6 +14,7 @@ use Rattle.pine.specs.Param.{Field, paramAnswer}
 use Rattle.pine.specs.Record.{bytesPerTest, streamLen}
 use Rattle.pine.proofs.Limits.{limits}
 use Rattle.rows.specs.Rows.{rowRule}
+use Rattle.flp.specs.Tests.{testsOf}
 use Rattle.turboshake.specs.declared.Sponge.{Sponge}
 use Rattle.turboshake.specs.TurboShake.{Bytes}
 use Rattle.turboshake.specs.Stream.{drawn, streamOf}
@@ -30,6 +31,10 @@ stream-is n seed s l f e =
     ap (drawn n) (e ∙ ap (λ (m : List ℕ). streamOf m 1) (sym (append-nil (beforeBinder seed (dst algorithmId 8)))))
     ∙ drawn-is seed 8 [] n f (record {})
     ∙ rw (eq-eqb (length seed) 16 l)
+
+-- so the tests that took it took the seed's
+pub results-are : (p per T : ℕ) (seed xs rs : List ℕ) (s : Sponge) → length seed ≡ 16 → Bytes seed → s ≡ streamOf (beforeBinder seed (dst algorithmId 8)) 1 → rs ≡ testsOf p per T (drawn (T * per) s) xs → rs ≡ testsOf p per T (wrStream (T * per) seed) xs
+results-are p per T seed xs rs s l f e is = is ∙ ap (λ (bytes : List ℕ). testsOf p per T bytes xs) (stream-is (T * per) seed s l f e)
 
 pub stream-long : (n : ℕ) (seed : List ℕ) → length seed ≡ 16 → Bytes seed → length (wrStream n seed) ≡ n
 stream-long n seed l f = ap length (sym (stream-is n seed _ l f refl)) ∙ length-drawn n _

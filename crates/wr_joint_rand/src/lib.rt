@@ -130,6 +130,29 @@ fn norm_and_blocks(
     norm
 }
 
+// The tests on a gradient's elements, with the next bytes of a stream: for tests that are so long that few fit a buffer.
+fn run_long_tests(
+    gradient: &[f64],
+    scale: f64,
+    frac_bits: u64,
+    per: usize,
+    stream: Sponge,
+    results: &mut [u64],
+)
+    requires { ⌜ Usable floorLimit64 «frac_bits» (now gradient) × (scale ≡ power «frac_bits») ⌝ }
+    requires { ⌜ (stream .at < 168) × (length (now results) ≤ 256) ⌝ }
+    requires { ⌜ (per ≤ 16384) × (length (now gradient) ≤ 4 * per) ⌝ }
+    ensures { λ _. ⌜ now (results .exit) ≡ testsOf p64 per (length (now (results .entry))) (drawn (length (now (results .entry)) * per) stream) (elements p64 «frac_bits» (now (gradient .entry))) ⌝ }
+{
+    let mut state = stream;
+    let mut t = 0;
+    while t < results.len() {
+        let end = groups::at_most(t + tiles::TESTS, results.len());
+        state = tiles::run_block(gradient, scale, frac_bits, per, state, &mut results[t..end]);
+        t = end;
+    }
+}
+
 // The tests on a gradient's elements, with the bytes of a seed, and its squared norm without reduction.
 fn norm_from_seed(
     gradient: &[f64],
@@ -157,6 +180,21 @@ fn norm_from_seed(
             &mut buffer,
             results,
         );
+    }
+    // Of long tests few would fit the buffer, and for every few the coordinates would be converted again. Here the squared
+    // norm comes last, from a pass with no tests.
+    if results.len() > columns::FEW {
+        if 16384 / per <= columns::FEW {
+            run_long_tests(gradient, scale, frac_bits, per, stream, results);
+            return gradient::norm_and_tests(
+                gradient,
+                scale,
+                frac_bits,
+                per,
+                seed,
+                &mut results[0..0],
+            );
+        }
     }
     let mut buffer = [0u8; 16384];
     norm_and_blocks(

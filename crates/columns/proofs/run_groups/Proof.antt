@@ -30,7 +30,7 @@ loop-holds c =
     (omega arith, refl, refl, groups-start p64 (s .args .per) (s .args .stream .now) (s .args .gradient .now) _ (s .args .results .now) (c .before .before .zero-row .ensures))
 
 group-from-requires : tie.Need-group-from-requires Inv-loop μ-loop
-group-from-requires c κs = (c .loop-test .taken, (c .before .before .before .before .before .before .before .before .before .before .pre .1 .1 .0 .1, c .before .before .before .before .before .before .before .before .before .before .pre .0 .1 .1))
+group-from-requires c κs = (c .loop-test .taken, (omega (arith, c .before .before .before .before .before .before .before .before .before .before .pre .1 .1 .0 .1), c .before .before .before .before .before .before .before .before .before .before .pre .0 .1 .1))
 
 sub-n : tie.Need-sub-n Inv-loop μ-loop
 sub-n c = omega (arith, fits (c .before))

@@ -1,15 +1,11 @@
 -- `wr_joint_rand::run_from_seed` meets its contract. Assumes nothing.
 use borrow.Author.Needs.{needs}
-use mathlib.Core.Path.{ap, _∙_}
-use mathlib.Core.List.{List}
-use Prim.Native.Nat.{ℕ, _*_}
 use native.Mathlib.Omega.{arith}
 use lib.ListN.{length}
 use Rattle.field64.specs.Field.{p64}
-use Rattle.flp.specs.Tests.{testsOf}
 use Rattle.turboshake.proofs.Shake.{bytes-all}
 use Rattle.wr_joint_rand.proofs.Blocks.{short-per, few-bytes}
-use Rattle.wr_joint_rand.proofs.Seeds.{stream-is}
+use Rattle.wr_joint_rand.proofs.Seeds.{results-are}
 use Rattle.wr_joint_rand.proofs.run_from_seed.Statement.{statement}
 use Rattle.wr_joint_rand.proofs.run_from_seed.Tie as tie
 
@@ -35,7 +31,7 @@ same-length c = search needs
 returns : tie.Need-returns
 returns c =
     let s = c .before .before .before .before .before .before .before .before .before .before .before in
-    c .before .before .before .run-blocks .ensures ∙ ap (λ (bytes : List ℕ). testsOf p64 (s .args .per) (length (s .args .results .now)) bytes (s .args .gradient .now)) (stream-is (length (s .args .results .now) * s .args .per) (s .args .seed .now) _ (s .pre .0 .0) (bytes-all (s .args .seed .now) (λ j h. c .before .before .before .before .before .before .before .before .before .shared-slice-known2 .given j .fits)) (c .before .before .before .before .before .before .before .stream-of .ensures .0))
+    results-are p64 (s .args .per) (length (s .args .results .now)) (s .args .seed .now) (s .args .gradient .now) _ _ (s .pre .0 .0) (bytes-all (s .args .seed .now) (λ j h. c .before .before .before .before .before .before .before .before .before .shared-slice-known2 .given j .fits)) (c .before .before .before .before .before .before .before .stream-of .ensures .0) (c .before .before .before .run-blocks .ensures)
 
 slice-aggregate-run-blocks-2 : tie.Need-slice-aggregate-run-blocks-2
 slice-aggregate-run-blocks-2 c = search needs
@@ -51,7 +47,7 @@ same-length-2 c = search needs
 returns-2 : tie.Need-returns-2
 returns-2 c =
     let s = c .before .before .before .before .before .before .before .before .before .before .before in
-    c .before .before .before .run-blocks2 .ensures ∙ ap (λ (bytes : List ℕ). testsOf p64 (s .args .per) (length (s .args .results .now)) bytes (s .args .gradient .now)) (stream-is (length (s .args .results .now) * s .args .per) (s .args .seed .now) _ (s .pre .0 .0) (bytes-all (s .args .seed .now) (λ j h. c .before .before .before .before .before .before .before .before .before .shared-slice-known2 .given j .fits)) (c .before .before .before .before .before .before .before .stream-of .ensures .0))
+    results-are p64 (s .args .per) (length (s .args .results .now)) (s .args .seed .now) (s .args .gradient .now) _ _ (s .pre .0 .0) (bytes-all (s .args .seed .now) (λ j h. c .before .before .before .before .before .before .before .before .before .shared-slice-known2 .given j .fits)) (c .before .before .before .before .before .before .before .stream-of .ensures .0) (c .before .before .before .run-blocks2 .ensures)
 
 pub run-from-seed-spec : {M : Type 1} → statement M
 run-from-seed-spec =

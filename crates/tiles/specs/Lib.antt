@@ -1,0 +1,2 @@
+-- The bytes of several tests, side by side.
+pub mod Tiles
