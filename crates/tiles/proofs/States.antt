@@ -84,7 +84,7 @@ ready-at d (suc T) zero (s ∷ ss) h l r = r .0
 ready-at d (suc T) (suc t) (s ∷ ss) h l r = ready-at d T t ss (omega arith) (omega arith) (r .1)
 
 -- as many states as there are tests
-pub states-long : (T T′ : ℕ) (ss : List Sponge) → T′ ≡ T → T ≤ 32 → length ss ≡ 32 → T′ ≡ length (take T′ ss)
+pub states-long : (T T′ : ℕ) (ss : List Sponge) → T′ ≡ T → T ≤ 16 → length ss ≡ 16 → T′ ≡ length (take T′ ss)
 states-long T T′ ss e h l =
     let k : T′ ≤ length ss = omega arith in
     sym (length-take-le T′ ss k)
@@ -117,12 +117,12 @@ pub inside : (t T n l : ℕ) → t < T → T * n ≤ l → t * n + n ≤ l
 inside t T n l h m = omega (arith, suc-mul t n, mul-le-mul-right n h)
 
 -- they are few
-pub few : (t T n : ℕ) → t < T → T ≤ 32 → n ≤ 256 → t * n ≤ 8192
+pub few : (t T n : ℕ) → t < T → T ≤ 16 → n ≤ 128 → t * n ≤ 2048
 few t T n h l m =
-    let k : t ≤ 32 = omega arith in
+    let k : t ≤ 16 = omega arith in
     mul-le-mul k m
 
-pub roomy : (T T′ n a b : ℕ) → T′ ≡ T → T ≤ 32 → n ≤ 256 → a ≡ b → 8192 ≤ b → T′ * n ≤ a
+pub roomy : (T T′ n a b : ℕ) → T′ ≡ T → T ≤ 16 → n ≤ 128 → a ≡ b → 2048 ≤ b → T′ * n ≤ a
 roomy T T′ n a b e h l f m = rw (e, f) (le-trans (mul-le-mul h l) m)
 
 pub as-many : (from n : ℕ) → from + n - from ≡ n

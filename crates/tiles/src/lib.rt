@@ -17,22 +17,22 @@ ghost use Rattle.turboshake.specs.Stream.{drawn, after};
 ghost use Rattle.tiles.specs.Tiles.{startsOf, tileOf, allAfter, Ready};
 
 // So many tests, at the most, are a block.
-pub const TESTS: usize = 32;
+pub const TESTS: usize = 16;
 
 // So many bytes of each test, at the most, are a tile.
-const WIDTH: usize = 256;
+const WIDTH: usize = 128;
 
 // The states from which the tests of a block draw, and the one after the last.
 pub struct Starts {
-    pub states: [Sponge; 32],
+    pub states: [Sponge; 16],
     pub next: Sponge,
 }
 
 fn find_starts(stream: Sponge, per: usize, count: usize) -> Starts
-    requires { ⌜ (stream .at < 168) × ((count ≤ 32) × (per ≤ 16384)) ⌝ }
+    requires { ⌜ (stream .at < 168) × ((count ≤ 16) × (per ≤ 16384)) ⌝ }
     ensures { λ r. ⌜ (take count (r .states) ≡ startsOf per count stream) × ((r .next ≡ after (count * per) stream) × (r .next .at < 168)) ⌝ }
 {
-    let mut states = [stream; 32];
+    let mut states = [stream; 16];
     let mut next = stream;
     let mut t = 0;
     while t < count {
@@ -44,8 +44,8 @@ fn find_starts(stream: Sponge, per: usize, count: usize) -> Starts
 }
 
 // Draws the next n bytes of each test, side by side, and gives the states after them.
-fn draw_tile(states: [Sponge; 32], count: usize, n: usize, buffer: &mut [u8]) -> [Sponge; 32]
-    requires { ⌜ (count ≤ 32) × ((n ≤ 256) × (count * n ≤ length (now buffer))) ⌝ }
+fn draw_tile(states: [Sponge; 16], count: usize, n: usize, buffer: &mut [u8]) -> [Sponge; 16]
+    requires { ⌜ (count ≤ 16) × ((n ≤ 128) × (count * n ≤ length (now buffer))) ⌝ }
     requires { ⌜ Ready (take count states) ⌝ }
     ensures { λ r. ⌜ (take (count * n) (now (buffer .exit)) ≡ tileOf n (take count states)) × (take count r ≡ allAfter n (take count states)) ⌝ }
 {
@@ -72,7 +72,7 @@ fn add_tile(
     results: &mut [u64],
 )
     requires { ⌜ Usable floorLimit64 «frac_bits» (now part) × (scale ≡ power «frac_bits») ⌝ }
-    requires { ⌜ (length (now results) * n ≤ length (now tile)) × ((length (now part) ≤ 4 * n) × (n ≤ 256)) ⌝ }
+    requires { ⌜ (length (now results) * n ≤ length (now tile)) × ((length (now part) ≤ 4 * n) × (n ≤ 128)) ⌝ }
     requires { ⌜ (length (now results) ≡ length (now spare)) × Below p64 (now results) ⌝ }
     ensures { λ _. ⌜ now (results .exit) ≡ addRows p64 (now (results .entry)) (testsOf p64 n (length (now (results .entry))) (now (tile .entry)) (elements p64 «frac_bits» (now (part .entry)))) ⌝ }
 {
@@ -86,14 +86,14 @@ fn run_tiles(
     scale: f64,
     frac_bits: u64,
     per: usize,
-    starts: [Sponge; 32],
+    starts: [Sponge; 16],
     buffer: &mut [u8],
     spare: &mut [u64],
     results: &mut [u64],
 )
     requires { ⌜ Usable floorLimit64 «frac_bits» (now gradient) × (scale ≡ power «frac_bits») ⌝ }
     requires { ⌜ (per ≤ 16384) × (length (now gradient) ≤ 4 * per) ⌝ }
-    requires { ⌜ (length (now results) ≤ 32) × ((length (now results) ≡ length (now spare)) × (8192 ≤ length (now buffer))) ⌝ }
+    requires { ⌜ (length (now results) ≤ 16) × ((length (now results) ≡ length (now spare)) × (2048 ≤ length (now buffer))) ⌝ }
     requires { ⌜ Ready (take (length (now results)) starts) ⌝ }
     ensures { λ _. ⌜ now (results .exit) ≡ testsOf p64 per (length (now (results .entry))) (tileOf per (take (length (now (results .entry))) starts)) (elements p64 «frac_bits» (now (gradient .entry))) ⌝ }
 {
@@ -132,12 +132,12 @@ pub fn run_block(
 ) -> Sponge
     requires { ⌜ Usable floorLimit64 «frac_bits» (now gradient) × (scale ≡ power «frac_bits») ⌝ }
     requires { ⌜ (per ≤ 16384) × (length (now gradient) ≤ 4 * per) ⌝ }
-    requires { ⌜ (stream .at < 168) × (length (now results) ≤ 32) ⌝ }
+    requires { ⌜ (stream .at < 168) × (length (now results) ≤ 16) ⌝ }
     ensures { λ r. ⌜ (r ≡ after (length (now (results .entry)) * per) stream) × (r .at < 168) ⌝ }
     ensures { λ _. ⌜ now (results .exit) ≡ testsOf p64 per (length (now (results .entry))) (drawn (length (now (results .entry)) * per) stream) (elements p64 «frac_bits» (now (gradient .entry))) ⌝ }
 {
-    let mut buffer = [0u8; 8192];
-    let mut spare = [0u64; 32];
+    let mut buffer = [0u8; 2048];
+    let mut spare = [0u64; 16];
     let count = results.len();
     let block = find_starts(stream, per, count);
     let states = block.states;

@@ -111,6 +111,12 @@ fewer per m n a b e h f = rw (e, ← f) h
 pub short-per : (T per n : ℕ) → 0 < T → T * per ≤ n → per ≤ n
 short-per T per n h l = le-trans (omega (arith, mul-le-mul-right per h)) l
 
+-- where some test fits the buffer, one does
+pub one-fits : (T per n m fit most : ℕ) → 0 < T → 0 < m → 0 < per → fit ≡ n / per → most ≡ min T m → most ≤ fit → per ≤ n
+one-fits T per n m fit most t k h f e l =
+    let some : 1 ≤ n / per = omega (arith, t, k, f, e, l) in
+    omega (arith, le-div-iff-mul-le h .0 some)
+
 -- how many bytes the tests take
 pub some-bytes : (T per : ℕ) → 0 < T → 0 < per → 0 < T * per
 some-bytes T per h l = le-trans l (short-per T per (T * per) h (le-of-eq refl))

@@ -20,6 +20,9 @@ ghost use Rattle.wr_joint_rand.specs.WrJointRand.{wrStream, streamFrom};
 // The bytes in a seed.
 const SEED_LEN: u64 = 16;
 
+// So many tests are enough for a block: they go by tables.
+const MANY: usize = 7;
+
 // Rule 7 of the row: as long as the stream, or as a seed.
 pub fn check_row(seeded: bool, row: &[u8], stream_len: u64) -> Answer
     requires { ⌜ 0 < «stream_len» ⌝ }
@@ -181,22 +184,14 @@ fn norm_from_seed(
             results,
         );
     }
-    // Of long tests few would fit the buffer, and for every few the coordinates would be converted again. Here the squared
-    // norm comes last, from a pass with no tests.
-    if results.len() > columns::FEW {
-        if 16384 / per <= columns::FEW {
-            run_long_tests(gradient, scale, frac_bits, per, stream, results);
-            return gradient::norm_and_tests(
-                gradient,
-                scale,
-                frac_bits,
-                per,
-                seed,
-                &mut results[0..0],
-            );
-        }
+    // Where the buffer has room for few of the tests, the coordinates would be converted again for every few. Here the
+    // squared norm comes last, from a pass with no tests.
+    let fit = 8192 / per;
+    if fit < columns::at_most(results.len(), MANY) {
+        run_long_tests(gradient, scale, frac_bits, per, stream, results);
+        return gradient::norm_and_tests(gradient, scale, frac_bits, per, seed, &mut results[0..0]);
     }
-    let mut buffer = [0u8; 16384];
+    let mut buffer = [0u8; 8192];
     norm_and_blocks(
         gradient,
         scale,

@@ -11,7 +11,7 @@ use Rattle.tiles.proofs.draw_tile.Statement.{statement}
 use Rattle.tiles.proofs.draw_tile.Tie as tie
 
 abbrev Inv-loop : tie.InvT-loop
-Inv-loop count n buffer₀ next₀ t₀ buffer next t = (t ≤ count) × (length buffer ≡ length buffer₀) × (length next ≡ 32) × (length next₀ ≡ 32) × Tiled n next₀ t next buffer
+Inv-loop count n buffer₀ next₀ t₀ buffer next t = (t ≤ count) × (length buffer ≡ length buffer₀) × (length next ≡ 16) × (length next₀ ≡ 16) × Tiled n next₀ t next buffer
 
 abbrev μ-loop : tie.MeasureT-loop
 μ-loop count n buffer₀ next₀ t₀ buffer next t = count - t

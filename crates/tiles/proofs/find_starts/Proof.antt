@@ -11,7 +11,7 @@ use Rattle.tiles.proofs.find_starts.Statement.{statement}
 use Rattle.tiles.proofs.find_starts.Tie as tie
 
 abbrev Inv-loop : tie.InvT-loop
-Inv-loop per count states₀ next₀ t₀ states next t = (t ≤ count) × (length states ≡ 32) × (next .at < 168) × (take t states ≡ startsOf per t next₀) × (next ≡ after (t * per) next₀)
+Inv-loop per count states₀ next₀ t₀ states next t = (t ≤ count) × (length states ≡ 16) × (next .at < 168) × (take t states ≡ startsOf per t next₀) × (next ≡ after (t * per) next₀)
 
 abbrev μ-loop : tie.MeasureT-loop
 μ-loop per count states₀ next₀ t₀ states next t = count - t

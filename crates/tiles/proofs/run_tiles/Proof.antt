@@ -20,7 +20,7 @@ use Rattle.tiles.proofs.run_tiles.Tie as tie
 
 abbrev Inv-loop : tie.InvT-loop
 Inv-loop gradient scale frac-bits per buffer₀ spare₀ results₀ count states₀ j₀ buffer spare results states j =
-    (j ≤ per) × (length buffer ≡ length buffer₀) × (length spare ≡ length spare₀) × (length results ≡ length results₀) × (results ≡ testsOf p64 per count (tileOf per (take count states₀)) (take (4 * j) (elements p64 frac-bits gradient))) × (take count states ≡ allAfter j (take count states₀)) × (length states₀ ≡ 32)
+    (j ≤ per) × (length buffer ≡ length buffer₀) × (length spare ≡ length spare₀) × (length results ≡ length results₀) × (results ≡ testsOf p64 per count (tileOf per (take count states₀)) (take (4 * j) (elements p64 frac-bits gradient))) × (take count states ≡ allAfter j (take count states₀)) × (length states₀ ≡ 16)
 
 abbrev μ-loop : tie.MeasureT-loop
 μ-loop gradient scale frac-bits per buffer₀ spare₀ results₀ count states₀ j₀ buffer spare results states j = per - j
@@ -28,7 +28,7 @@ abbrev μ-loop : tie.MeasureT-loop
 zero-row-requires : tie.Need-zero-row-requires Inv-loop μ-loop
 zero-row-requires c κs = search needs
 
-fits : (g : tie.After-group-from Inv-loop μ-loop) → Fits (g .before .before .loop .j) 256 (g .before .before .before .before .before .before .before .before .before .before .before .args .per) (length (g .before .before .before .before .before .before .before .before .before .before .before .args .gradient .now)) (g .group-from .result)
+fits : (g : tie.After-group-from Inv-loop μ-loop) → Fits (g .before .before .loop .j) 128 (g .before .before .before .before .before .before .before .before .before .before .before .args .per) (length (g .before .before .before .before .before .before .before .before .before .before .before .args .gradient .now)) (g .group-from .result)
 fits g = group-fits _ _ _ _ _ (g .before .loop-test .taken) (lit< tt) (g .group-from .ensures)
 
 loop-holds : tie.Need-loop-holds Inv-loop μ-loop
@@ -101,7 +101,7 @@ loop-again c =
     let h : (j ≤ r .end) × (r .end ≤ per) = (omega (arith, fits g), fits g .inside) in
     let on : j + n ≡ r .end = omega (arith, h) in
     let within : j + n ≤ per = omega (arith, h) in
-    let cut = group-cut j 256 per xs r (g .before .loop-test .taken) (g .group-from .ensures) in
+    let cut = group-cut j 128 per xs r (g .before .loop-test .taken) (g .group-from .ensures) in
     let part = elements-cut p64 f (4 * j) (4 * r .end) xs _ cut in
     let count = states-long (length (s .args .results .now)) (length (z .last .0)) (s .args .starts) (z .kept .0) (s .pre .1 .1 .0 .0) (l .inv .6) in
     let added = sides-added p64 per j n _ within (length (z .last .0) * n) starts (l .results) _ (l .inv .3 ∙ count) (d .ensures .0 ∙ ap (tileOf n) (l .inv .5)) in (

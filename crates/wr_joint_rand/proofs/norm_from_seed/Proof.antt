@@ -1,12 +1,12 @@
 -- `wr_joint_rand::norm_from_seed` meets its contract. Assumes nothing.
 use borrow.Author.Needs.{needs}
-use mathlib.Core.Path.{_∙_}
+use mathlib.Core.Path.{refl, _∙_}
 use native.Mathlib.Omega.{arith}
 use lib.ListN.{length}
 use Rattle.field64.specs.Field.{p64}
 use Rattle.flp.specs.Encode.{elements}
 use Rattle.turboshake.proofs.Shake.{bytes-all}
-use Rattle.wr_joint_rand.proofs.Blocks.{short-per, few-bytes, no-results}
+use Rattle.wr_joint_rand.proofs.Blocks.{short-per, few-bytes, no-results, one-fits}
 use Rattle.wr_joint_rand.proofs.Seeds.{results-are}
 use Rattle.wr_joint_rand.proofs.norm_from_seed.Statement.{statement}
 use Rattle.wr_joint_rand.proofs.norm_from_seed.Tie as tie
@@ -36,8 +36,11 @@ returns c =
     let n = c .before .before .before .norm-and-blocks .ensures in
     (n .0, results-are p64 (s .args .per) (length (s .args .results .now)) (s .args .seed .now) (elements p64 (s .args .frac-bits) (s .args .gradient .now)) _ _ (s .pre .1 .0 .0) (bytes-all (s .args .seed .now) (λ j h. c .before .before .before .before .before .before .before .before .before .shared-slice-known2 .given j .fits)) (c .before .before .before .before .before .before .before .stream-of .ensures .0) (n .1))
 
-div-if3 : tie.Need-div-if3
-div-if3 c = search needs
+div-fit : tie.Need-div-fit
+div-fit c = search needs
+
+at-most-requires : tie.Need-at-most-requires
+at-most-requires c κs = search needs
 
 run-long-tests-requires : tie.Need-run-long-tests-requires
 run-long-tests-requires c κs = search needs
@@ -70,17 +73,18 @@ slice-aggregate-norm-and-blocks-2 c = search needs
 
 norm-and-blocks-requires-2 : tie.Need-norm-and-blocks-requires-2
 norm-and-blocks-requires-2 c κs =
-    let s = c .before .before .before .before .before .before .before .before in
-    (s .pre .0, ((c .before .before .before .before .stream-of .ensures .1, ((s .pre .1 .1 .0 .0, s .pre .1 .1 .0 .1), omega arith)), (s .pre .1 .0 .1 .0, (s .pre .1 .1 .1, s .pre .1 .0 .1 .1))))
+    let s = c .before .before .before .before .before .before .before .before .before in
+    let fits = one-fits (length (s .args .results .now)) (s .args .per) 8192 7 _ _ (s .pre .1 .0 .1 .0) (omega arith) (s .pre .1 .1 .0 .0) refl (c .before .before .before .at-most .ensures) (c .before .before .if2 .left) in
+    (s .pre .0, ((c .before .before .before .before .before .stream-of .ensures .1, ((s .pre .1 .1 .0 .0, fits), omega arith)), (s .pre .1 .0 .1 .0, (s .pre .1 .1 .1, s .pre .1 .0 .1 .1))))
 
 same-length-3 : tie.Need-same-length-3
 same-length-3 c = search needs
 
 returns-3 : tie.Need-returns-3
 returns-3 c =
-    let s = c .before .before .before .before .before .before .before .before .before .before .before .before in
+    let s = c .before .before .before .before .before .before .before .before .before .before .before .before .before in
     let n = c .before .before .before .norm-and-blocks2 .ensures in
-    (n .0, results-are p64 (s .args .per) (length (s .args .results .now)) (s .args .seed .now) (elements p64 (s .args .frac-bits) (s .args .gradient .now)) _ _ (s .pre .1 .0 .0) (bytes-all (s .args .seed .now) (λ j h. c .before .before .before .before .before .before .before .before .before .before .shared-slice-known2 .given j .fits)) (c .before .before .before .before .before .before .before .before .stream-of .ensures .0) (n .1))
+    (n .0, results-are p64 (s .args .per) (length (s .args .results .now)) (s .args .seed .now) (elements p64 (s .args .frac-bits) (s .args .gradient .now)) _ _ (s .pre .1 .0 .0) (bytes-all (s .args .seed .now) (λ j h. c .before .before .before .before .before .before .before .before .before .before .before .shared-slice-known2 .given j .fits)) (c .before .before .before .before .before .before .before .before .before .stream-of .ensures .0) (n .1))
 
 pub norm-from-seed-spec : {M : Type 1} → statement M
 norm-from-seed-spec =
@@ -92,7 +96,8 @@ norm-from-seed-spec =
     norm-and-blocks-requires
     same-length
     returns
-    div-if3
+    div-fit
+    at-most-requires
     run-long-tests-requires
     sub-norm-and-tests
     part-norm-and-tests-start

@@ -22,12 +22,12 @@ abbrev μ-loop : tie.MeasureT-loop
 record Block (t e T : ℕ) : Type 0 where
   pub on : t < e
   pub inside : e ≤ T
-  pub few : e - t ≤ 32
+  pub few : e - t ≤ 16
 
 block-of : (c : tie.After-at-most Inv-loop μ-loop) → Block (c .before .before .loop .t) (c .at-most .result) (length (c .before .before .loop .results))
 block-of c = made _ _ _ (c .before .loop-test .taken) (c .at-most .ensures)
   where
-    made : (t e T : ℕ) → t < T → e ≡ min (t + 32) T → Block t e T
+    made : (t e T : ℕ) → t < T → e ≡ min (t + 16) T → Block t e T
     made t e T h is = record { on = omega (arith, h, is); inside = omega (arith, is); few = omega (arith, is) }
 
 loop-holds : tie.Need-loop-holds Inv-loop μ-loop
