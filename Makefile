@@ -82,6 +82,7 @@ linked: lib
 differential:
 	$(kit)
 	oracle/differential/run
+	PINE_LIB_DIR=$(CURDIR)/target/staticlib oracle/files/run
 
 bench:
 	$(kit)

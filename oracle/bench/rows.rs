@@ -1,12 +1,14 @@
 //! Measures rows: each says how to make fresh inputs, and the ways to work on them. A repetition makes inputs, takes
 //! the ways in turn, each on copies of its own that were just written, compares what they give, and reads as many
 //! bytes as their rows have.
-//! `calls` has the rows of the calls, `leaves` those of the leaf functions, `memory` reading and copying.
+//! `calls` has the rows of the calls, `files` those on a day's file, `leaves` those of the leaf functions, `memory`
+//! reading and copying.
 //! A line of the output is a row, its columns parted by tabs; document.py reads them.
 
 mod by_hand;
 mod by_hand_calls;
 mod calls;
+mod files;
 mod leaves;
 mod memory;
 mod stream;
@@ -230,7 +232,7 @@ fn print(title: &Title, times: &[Each<f64>]) {
 fn main() {
     let only = std::env::args().nth(1).unwrap_or_default();
     let mut random = Random(SystemTime::UNIX_EPOCH.elapsed().unwrap().as_nanos() as u64);
-    let rows = memory::table().into_iter().chain(calls::table()).chain(leaves::table());
+    let rows = memory::table().into_iter().chain(calls::table()).chain(leaves::table()).chain(files::table());
     for row in rows.filter(|r| r.title.kind == "memory" || r.title.text().contains(&only)) {
         print(&row.title, &measure(&row, &mut random));
     }

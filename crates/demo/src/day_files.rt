@@ -67,19 +67,7 @@ fn add_key(file: &mut [u8], second: &mut [u8], len: usize, key: usize, aggregate
     add(file, second, len, key, &aggregates[start..end])
 }
 
-// Begins a file empty and adds the reports of all keys, the last first: each is put in before the others.
-fn write(aggregates: &[u64], file: &mut [u8]) -> usize {
-    let mut second = [0u8; SECOND_LEN];
-    if file.len() < 6 {
-        return 0;
-    }
-    let begun = day_file::file_write(param(), 0, b"", &aggregates[0..0], &mut file[0..6]);
-    if begun.number != 0 {
-        return 0;
-    }
-    add_all(aggregates, file, &mut second)
-}
-
+// The reports of all keys, the last first: each is put in before the others.
 fn add_all(aggregates: &[u64], file: &mut [u8], second: &mut [u8]) -> usize {
     let mut len = 6;
     let mut left = KEYS;
@@ -90,10 +78,31 @@ fn add_all(aggregates: &[u64], file: &mut [u8], second: &mut [u8]) -> usize {
     len
 }
 
+// Begins a file empty and adds the reports.
+fn write_in(aggregates: &[u64], file: &mut [u8], second: &mut [u8]) -> usize {
+    if file.len() < 6 {
+        return 0;
+    }
+    let begun = day_file::file_write(param(), 0, b"", &aggregates[0..0], &mut file[0..6]);
+    if begun.number != 0 {
+        return 0;
+    }
+    add_all(aggregates, file, second)
+}
+
+fn write(aggregates: &[u64], file: &mut [u8]) -> usize {
+    let mut second = [0u8; SECOND_LEN];
+    write_in(aggregates, file, &mut second)
+}
+
 // The bodies of a file: in the order of the keys they are a row of aggregates again.
+fn read_in(file: &[u8], contents: &mut [u8], bodies: &mut [u64]) -> Answer {
+    day_file::file_read(param(), file, contents, bodies)
+}
+
 fn read(file: &[u8], bodies: &mut [u64]) -> Answer {
     let mut contents = [0u8; 288];
-    day_file::file_read(param(), file, &mut contents, bodies)
+    read_in(file, &mut contents, bodies)
 }
 
 fn keys_read(left_file: &[u8], right_file: &[u8]) -> u64 {
@@ -108,18 +117,22 @@ fn keys_read(left_file: &[u8], right_file: &[u8]) -> u64 {
     day::true_keys(&left, &right)
 }
 
-pub fn kept(left: &[u64], right: &[u64]) {
-    let mut left_file = [0u8; FILE_LEN];
-    let mut right_file = [0u8; FILE_LEN];
-    let left_len = write(left, &mut left_file);
-    let right_len = write(right, &mut right_file);
+fn kept_in(left: &[u64], right: &[u64], left_file: &mut [u8], right_file: &mut [u8]) {
+    let left_len = write(left, left_file);
+    let right_len = write(right, right_file);
     let most = day_file::file_max(param(), KEYS as u32);
     print::text(b"each server's file of the day, by controller and valve: ");
     print::counted(left_len as u64, b" and ");
     print::counted(right_len as u64, b" bytes, at most ");
     print::counted(most.len, b"\n");
     print::counted(
-        keys_read(&left_file, &right_file),
+        keys_read(left_file, right_file),
         b" of 24 keys in the two files: the decoded body equals the true sums in all 4 coordinates\n",
     );
+}
+
+pub fn kept(left: &[u64], right: &[u64]) {
+    let mut left_file = [0u8; FILE_LEN];
+    let mut right_file = [0u8; FILE_LEN];
+    kept_in(left, right, &mut left_file, &mut right_file);
 }
