@@ -187,7 +187,7 @@ fn norm_from_seed(
     // Where the buffer has room for few of the tests, the coordinates would be converted again for every few. Here the
     // squared norm comes last, from a pass with no tests.
     let fit = 8192 / per;
-    if fit < columns::at_most(results.len(), MANY) {
+    if fit < groups::at_most(results.len(), MANY) {
         run_long_tests(gradient, scale, frac_bits, per, stream, results);
         return gradient::norm_and_tests(gradient, scale, frac_bits, per, seed, &mut results[0..0]);
     }
