@@ -15,7 +15,7 @@ ghost use Rattle.pine.specs.Param.{Field64, paramAnswer};
 ghost use Rattle.pine.specs.Record.{streamLen, pineOf};
 ghost use Rattle.flp.specs.Encode.{trueSqNorm, encodeOutcome, encodeOf};
 ghost use Rattle.measurement.specs.Parts.{Usable};
-ghost use Rattle.wr_joint_rand.specs.WrJointRand.{wrStream, streamFrom};
+ghost use Rattle.wr_joint_rand.specs.WrJointRand.{wrStream};
 ghost use Rattle.encode.specs.Late.{rowsAnswer, Rooms, lateOf};
 
 // Rules 7 to 9 and 17, with the answer on row 2, of a record that was derived.
@@ -71,54 +71,44 @@ fn finish(
     late
 }
 
-// Encoding with a row for the results that may be spoilt, as long as theirs or of 256. The tests' bytes are row 2, or come of
-// the seed that it has.
+// Encoding with a row for the results that may be spoilt, as long as theirs or of 256.
 fn encode_in(
     param: PineParam,
     gradient: &[f64],
-    seeded: bool,
-    row: &[u8],
+    stream: &[u8],
     found: &mut [u64],
     measurement: &mut [u64],
     results: &mut [u64],
 ) -> Answer
     requires { ⌜ length (now found) ≡ min (length (now results)) 256 ⌝ }
-    ensures { λ r. ⌜ encodeOutcome r (now (measurement .exit)) (now (results .exit)) ≡ encodeOf Field64 param (now (gradient .entry)) (streamFrom seeded (streamLen (param .«num_wr_tests») (param .dimension)) (now (row .entry))) (now (measurement .entry)) (now (results .entry)) ⌝ }
+    ensures { λ r. ⌜ encodeOutcome r (now (measurement .exit)) (now (results .exit)) ≡ encodeOf Field64 param (now (gradient .entry)) (now (stream .entry)) (now (measurement .entry)) (now (results .entry)) ⌝ }
 {
     let inputs = params::check_param(param);
     if inputs.number != 0 {
         return inputs;
     }
     let pine = Pine::new(param);
-    let row_2 = wr_joint_rand::check_row(seeded, row, pine.stream_len());
+    let row_2 = rows::check_len(2, stream.len(), pine.stream_len());
     let early = check_rows(pine, row_2, gradient, measurement, results);
     if early.number != 0 {
         return early;
     }
     let per = (gradient.len() + 3) / 4;
-    let norm = wr_joint_rand::norm_and_tests(
-        gradient,
-        pine.scale,
-        pine.frac_bits,
-        per,
-        seeded,
-        row,
-        found,
-    );
+    let norm = gradient::norm_and_tests(gradient, pine.scale, pine.frac_bits, per, stream, found);
     finish(param, pine, gradient, norm, found, measurement, results)
 }
 
-// Encoding with a row of its own for the results. A short gradient costs little more than the row that has to be set to 0
-// for it.
-fn encode(
+// Encodes a gradient, with the lent stream for the wraparound tests: the measurement goes to one row
+// and the tests' results to another. A short gradient costs little more than the row that has to be
+// set to 0 for it.
+pub fn encode_with_wr_joint_rand(
     param: PineParam,
     gradient: &[f64],
-    seeded: bool,
-    row: &[u8],
+    stream: &[u8],
     measurement: &mut [u64],
     results: &mut [u64],
 ) -> Answer
-    ensures { λ r. ⌜ encodeOutcome r (now (measurement .exit)) (now (results .exit)) ≡ encodeOf Field64 param (now (gradient .entry)) (streamFrom seeded (streamLen (param .«num_wr_tests») (param .dimension)) (now (row .entry))) (now (measurement .entry)) (now (results .entry)) ⌝ }
+    ensures { λ r. ⌜ encodeOutcome r (now (measurement .exit)) (now (results .exit)) ≡ encodeOf Field64 param (now (gradient .entry)) (now (stream .entry)) (now (measurement .entry)) (now (results .entry)) ⌝ }
 {
     let tests = results.len();
     if tests <= 8 {
@@ -126,8 +116,7 @@ fn encode(
         return encode_in(
             param,
             gradient,
-            seeded,
-            row,
+            stream,
             &mut found[..tests],
             measurement,
             results,
@@ -138,8 +127,7 @@ fn encode(
         return encode_in(
             param,
             gradient,
-            seeded,
-            row,
+            stream,
             &mut found[..tests],
             measurement,
             results,
@@ -150,29 +138,48 @@ fn encode(
     encode_in(
         param,
         gradient,
-        seeded,
-        row,
+        stream,
         &mut found[..count],
         measurement,
         results,
     )
 }
 
-// Encodes a gradient, with the lent stream for the wraparound tests: the measurement goes to one row
-// and the tests' results to another.
-pub fn encode_with_wr_joint_rand(
+// Encoding from a seed, with such a row.
+fn encode_seed_in(
     param: PineParam,
     gradient: &[f64],
-    stream: &[u8],
+    seed: &[u8],
+    found: &mut [u64],
     measurement: &mut [u64],
     results: &mut [u64],
 ) -> Answer
-    ensures { λ r. ⌜ encodeOutcome r (now (measurement .exit)) (now (results .exit)) ≡ encodeOf Field64 param (now (gradient .entry)) (now (stream .entry)) (now (measurement .entry)) (now (results .entry)) ⌝ }
+    requires { ⌜ length (now found) ≡ min (length (now results)) 256 ⌝ }
+    ensures { λ r. ⌜ encodeOutcome r (now (measurement .exit)) (now (results .exit)) ≡ encodeOf Field64 param (now (gradient .entry)) (wrStream (streamLen (param .«num_wr_tests») (param .dimension)) (now (seed .entry))) (now (measurement .entry)) (now (results .entry)) ⌝ }
 {
-    encode(param, gradient, false, stream, measurement, results)
+    let inputs = params::check_param(param);
+    if inputs.number != 0 {
+        return inputs;
+    }
+    let pine = Pine::new(param);
+    let row_2 = wr_joint_rand::check_row(true, seed, pine.stream_len());
+    let early = check_rows(pine, row_2, gradient, measurement, results);
+    if early.number != 0 {
+        return early;
+    }
+    let per = (gradient.len() + 3) / 4;
+    let norm = wr_joint_rand::norm_from_seed(
+        gradient,
+        pine.scale,
+        pine.frac_bits,
+        per,
+        seed,
+        found,
+    );
+    finish(param, pine, gradient, norm, found, measurement, results)
 }
 
-// The same, with the stream that a seed of 16 bytes makes.
+// Encodes a gradient, with the stream that a seed of 16 bytes makes.
 pub fn encode_with_wr_joint_rand_seed(
     param: PineParam,
     gradient: &[f64],
@@ -182,5 +189,14 @@ pub fn encode_with_wr_joint_rand_seed(
 ) -> Answer
     ensures { λ r. ⌜ encodeOutcome r (now (measurement .exit)) (now (results .exit)) ≡ encodeOf Field64 param (now (gradient .entry)) (wrStream (streamLen (param .«num_wr_tests») (param .dimension)) (now (seed .entry))) (now (measurement .entry)) (now (results .entry)) ⌝ }
 {
-    encode(param, gradient, true, seed, measurement, results)
+    let mut found = [0u64; 256];
+    let count = groups::at_most(results.len(), 256);
+    encode_seed_in(
+        param,
+        gradient,
+        seed,
+        &mut found[..count],
+        measurement,
+        results,
+    )
 }

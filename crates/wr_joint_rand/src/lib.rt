@@ -157,7 +157,7 @@ fn run_long_tests(
 }
 
 // The tests on a gradient's elements, with the bytes of a seed, and its squared norm without reduction.
-fn norm_from_seed(
+pub fn norm_from_seed(
     gradient: &[f64],
     scale: f64,
     frac_bits: u64,
@@ -201,27 +201,4 @@ fn norm_from_seed(
         &mut buffer,
         results,
     )
-}
-
-// The tests on a gradient's elements, and its squared norm without reduction.
-pub fn norm_and_tests(
-    gradient: &[f64],
-    scale: f64,
-    frac_bits: u64,
-    per: usize,
-    seeded: bool,
-    row: &[u8],
-    results: &mut [u64],
-) -> Sum
-    requires { ⌜ Usable floorLimit64 «frac_bits» (now gradient) × (scale ≡ power «frac_bits») ⌝ }
-    requires { ⌜ length (now results) * per ≤ length (streamFrom seeded (length (now results) * per) (now row)) ⌝ }
-    requires { ⌜ (0 < length (now results)) × (length (now results) ≤ 256) ⌝ }
-    requires { ⌜ ((0 < per) × (per ≤ 16384)) × (length (now gradient) ≤ 4 * per) ⌝ }
-    ensures { λ r. ⌜ wordsOf r ≡ trueSqNorm «frac_bits» (now (gradient .entry)) ⌝ }
-    ensures { λ _. ⌜ now (results .exit) ≡ testsOf p64 per (length (now (results .entry))) (streamFrom seeded (length (now (results .entry)) * per) (now (row .entry))) (elements p64 «frac_bits» (now (gradient .entry))) ⌝ }
-{
-    if seeded {
-        return norm_from_seed(gradient, scale, frac_bits, per, row, results);
-    }
-    gradient::norm_and_tests(gradient, scale, frac_bits, per, row, results)
 }
