@@ -1,8 +1,6 @@
 // A day on the farm, a tutorial of the calls that take a report from its gradient to the sums: two controllers
-// with twelve valves each, a report of each valve, two servers. report.rt, filing.rt, trial.rt, probe.rt and day_files.rt
-// have the steps, numbered 1 to 12.
+// with twelve valves each, a report of each valve, two servers. report.rt, filing.rt, trial.rt and probe.rt have the steps, numbered 1 to 11.
 mod day;
-mod day_files;
 mod filing;
 mod made_up;
 mod print;
@@ -103,7 +101,6 @@ fn main() {
     sums(&left, &right);
     second_day(&mut left, &mut right);
     sums(&left, &right);
-    day_files::kept(&left, &right);
     withdrawal(&mut left, &mut right);
     trial_block(&mut left, &mut right);
     broken_probe();
