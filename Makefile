@@ -6,7 +6,7 @@
 #: make load           reports of made-up gradients, their checksum and time; SEED, REPORTS and the inputs (docs/LOAD.md)
 #:                     needs the kit; about 2 minutes from nothing, seconds where all is proved
 #: make test           the gate: proves every crate from nothing, tries the edits that must fail, runs the programs
-#:                     needs the kit; about 40 minutes on two threads of one core
+#:                     needs the kit; up to an hour on two threads of one core
 #: make lib            build/libpine_c.a, proved, with pine.h beside it
 #:                     needs the kit; about 6 minutes from nothing, seconds where all is proved
 #: make install        copies both, and a file for pkg-config, under PREFIX (/usr/local); DESTDIR goes before that
