@@ -4,7 +4,7 @@ use pine::record::Pine;
 use rules::Answer;
 use sums::Sum;
 ghost use mathlib.Core.Path.{_≡_};
-ghost use Prim.Native.Nat.{min};
+ghost use Prim.Native.Nat.{_*_, _≤_, _<_, min};
 ghost use lib.ListN.{length};
 ghost use Rattle.rules.specs.Rules.{accepted};
 ghost use Rattle.field64.specs.Field.{p64};
@@ -13,9 +13,10 @@ ghost use Rattle.doubles.specs.Doubles.{floorLimit64, power};
 ghost use Rattle.rows.specs.Rows.{Below};
 ghost use Rattle.pine.specs.Param.{Field64, paramAnswer};
 ghost use Rattle.pine.specs.Record.{streamLen, pineOf};
-ghost use Rattle.flp.specs.Encode.{trueSqNorm, encodeOutcome, encodeOf};
+ghost use Rattle.flp.specs.Tests.{testsOf};
+ghost use Rattle.flp.specs.Encode.{elements, trueSqNorm, encodeOutcome, encodeOf};
 ghost use Rattle.measurement.specs.Parts.{Usable};
-ghost use Rattle.wr_joint_rand.specs.WrJointRand.{wrStream};
+ghost use Rattle.wr_joint_rand.specs.WrJointRand.{wrStream, streamFrom};
 ghost use Rattle.encode.specs.Late.{rowsAnswer, Rooms, lateOf};
 
 // Rules 7 to 9 and 17, with the answer on row 2, of a record that was derived.
@@ -71,30 +72,64 @@ fn finish(
     late
 }
 
-// Encoding with a row for the results that may be spoilt, as long as theirs or of 256.
+// Runs the tests on the gradient's elements, whose bytes are the row or come of the seed that it has, and gives its
+// squared norm without reduction.
+fn norm_and_tests(
+    gradient: &[f64],
+    scale: f64,
+    frac_bits: u64,
+    per: usize,
+    seeded: bool,
+    row: &[u8],
+    results: &mut [u64],
+) -> Sum
+    requires { ⌜ Usable floorLimit64 «frac_bits» (now gradient) × (scale ≡ power «frac_bits») ⌝ }
+    requires { ⌜ length (now results) * per ≤ length (streamFrom seeded (length (now results) * per) (now row)) ⌝ }
+    requires { ⌜ (0 < length (now results)) × (length (now results) ≤ 256) ⌝ }
+    requires { ⌜ ((0 < per) × (per ≤ 16384)) × (length (now gradient) ≤ 4 * per) ⌝ }
+    ensures { λ r. ⌜ wordsOf r ≡ trueSqNorm «frac_bits» (now (gradient .entry)) ⌝ }
+    ensures { λ _. ⌜ now (results .exit) ≡ testsOf p64 per (length (now (results .entry))) (streamFrom seeded (length (now (results .entry)) * per) (now (row .entry))) (elements p64 «frac_bits» (now (gradient .entry))) ⌝ }
+{
+    if seeded {
+        return wr_joint_rand::norm_from_seed(gradient, scale, frac_bits, per, row, results);
+    }
+    gradient::norm_and_tests(gradient, scale, frac_bits, per, row, results)
+}
+
+// Encoding with a row for the results that may be spoilt, as long as theirs or of 256. The tests' bytes are row 2, or
+// come of the seed that it has.
 fn encode_in(
     param: PineParam,
     gradient: &[f64],
-    stream: &[u8],
+    seeded: bool,
+    row: &[u8],
     found: &mut [u64],
     measurement: &mut [u64],
     results: &mut [u64],
 ) -> Answer
     requires { ⌜ length (now found) ≡ min (length (now results)) 256 ⌝ }
-    ensures { λ r. ⌜ encodeOutcome r (now (measurement .exit)) (now (results .exit)) ≡ encodeOf Field64 param (now (gradient .entry)) (now (stream .entry)) (now (measurement .entry)) (now (results .entry)) ⌝ }
+    ensures { λ r. ⌜ encodeOutcome r (now (measurement .exit)) (now (results .exit)) ≡ encodeOf Field64 param (now (gradient .entry)) (streamFrom seeded (streamLen (param .«num_wr_tests») (param .dimension)) (now (row .entry))) (now (measurement .entry)) (now (results .entry)) ⌝ }
 {
     let inputs = params::check_param(param);
     if inputs.number != 0 {
         return inputs;
     }
     let pine = Pine::new(param);
-    let row_2 = rows::check_len(2, stream.len(), pine.stream_len());
+    let row_2 = wr_joint_rand::check_row(seeded, row, pine.stream_len());
     let early = check_rows(pine, row_2, gradient, measurement, results);
     if early.number != 0 {
         return early;
     }
     let per = (gradient.len() + 3) / 4;
-    let norm = gradient::norm_and_tests(gradient, pine.scale, pine.frac_bits, per, stream, found);
+    let norm = norm_and_tests(
+        gradient,
+        pine.scale,
+        pine.frac_bits,
+        per,
+        seeded,
+        row,
+        found,
+    );
     finish(param, pine, gradient, norm, found, measurement, results)
 }
 
@@ -116,6 +151,7 @@ pub fn encode_with_wr_joint_rand(
         return encode_in(
             param,
             gradient,
+            false,
             stream,
             &mut found[..tests],
             measurement,
@@ -127,6 +163,7 @@ pub fn encode_with_wr_joint_rand(
         return encode_in(
             param,
             gradient,
+            false,
             stream,
             &mut found[..tests],
             measurement,
@@ -138,45 +175,12 @@ pub fn encode_with_wr_joint_rand(
     encode_in(
         param,
         gradient,
+        false,
         stream,
         &mut found[..count],
         measurement,
         results,
     )
-}
-
-// Encoding from a seed, with such a row.
-fn encode_seed_in(
-    param: PineParam,
-    gradient: &[f64],
-    seed: &[u8],
-    found: &mut [u64],
-    measurement: &mut [u64],
-    results: &mut [u64],
-) -> Answer
-    requires { ⌜ length (now found) ≡ min (length (now results)) 256 ⌝ }
-    ensures { λ r. ⌜ encodeOutcome r (now (measurement .exit)) (now (results .exit)) ≡ encodeOf Field64 param (now (gradient .entry)) (wrStream (streamLen (param .«num_wr_tests») (param .dimension)) (now (seed .entry))) (now (measurement .entry)) (now (results .entry)) ⌝ }
-{
-    let inputs = params::check_param(param);
-    if inputs.number != 0 {
-        return inputs;
-    }
-    let pine = Pine::new(param);
-    let row_2 = wr_joint_rand::check_row(true, seed, pine.stream_len());
-    let early = check_rows(pine, row_2, gradient, measurement, results);
-    if early.number != 0 {
-        return early;
-    }
-    let per = (gradient.len() + 3) / 4;
-    let norm = wr_joint_rand::norm_from_seed(
-        gradient,
-        pine.scale,
-        pine.frac_bits,
-        per,
-        seed,
-        found,
-    );
-    finish(param, pine, gradient, norm, found, measurement, results)
 }
 
 // Encodes a gradient, with the stream that a seed of 16 bytes makes.
@@ -191,9 +195,10 @@ pub fn encode_with_wr_joint_rand_seed(
 {
     let mut found = [0u64; 256];
     let count = groups::at_most(results.len(), 256);
-    encode_seed_in(
+    encode_in(
         param,
         gradient,
+        true,
         seed,
         &mut found[..count],
         measurement,

@@ -11,6 +11,9 @@ use Rattle.rules.specs.Rules.{accepted, inOrder}
 use Rattle.field64.specs.Field.{p64}
 use Rattle.doubles.specs.Doubles.{floorLimit64}
 use Rattle.pine.specs.Param.{Field64, paramAnswer}
+use Rattle.pine.specs.Record.{streamLen}
+use Rattle.wr_joint_rand.proofs.Seeds.{stream-some}
+use Rattle.wr_joint_rand.specs.WrJointRand.{streamFrom}
 use Rattle.pine.proofs.Limits.{param-accepted}
 use Rattle.pine.proofs.Sizes.{scale-is}
 use Rattle.rows.specs.Rows.{rowRule}
@@ -23,7 +26,7 @@ use Rattle.encode.proofs.encode_in.Tie as tie
 
 -- the tests' bytes
 abbrev bytes : tie.Start → List ℕ
-bytes s = s .args .stream .now
+bytes s = streamFrom (s .args .seeded) (streamLen (s .args .param .«num_wr_tests») (s .args .param .dimension)) (s .args .row .now)
 
 -- the inputs are accepted
 passed : (c : tie.Else1) → paramAnswer Field64 (c .before .before .before .before .before .before .before .before .args .param) ≡ accepted
@@ -33,7 +36,7 @@ passed c = param-accepted Field64 _ (ap (λ (a : Answer). a .number) (sym (c .be
 early : (c : tie.After-check-rows) → let s = c .before .before .before .before .before .before .before .before .before .before .before .before .before .before in c .check-rows .result ≡ inOrder (take 6 (encodeRules Field64 (s .args .param) (s .args .gradient .now) (bytes s) (s .args .measurement .now) (s .args .results .now)))
 early c =
     let s = c .before .before .before .before .before .before .before .before .before .before .before .before .before .before in
-    early-is Field64 (s .args .param) (s .args .gradient .now) (bytes s) (s .args .measurement .now) (s .args .results .now) _ (c .before .before .before .before .before .new .ensures) _ _ (ap (λ (a : Answer). a .number) (passed (c .before .before .before .before .before .before))) (c .before .before .before .check-len .ensures ∙ ap (rowRule 2 (length (bytes s))) (c .before .before .before .before .stream-len .ensures ∙ stream-is _ _ (c .before .before .before .before .before .new .ensures))) (c .check-rows .ensures)
+    early-is Field64 (s .args .param) (s .args .gradient .now) (bytes s) (s .args .measurement .now) (s .args .results .now) _ (c .before .before .before .before .before .new .ensures) _ _ (ap (λ (a : Answer). a .number) (passed (c .before .before .before .before .before .before))) (c .before .before .before .check-row .ensures ∙ ap (λ (n : ℕ). rowRule 2 (length (streamFrom (s .args .seeded) n (s .args .row .now))) n) (c .before .before .before .before .stream-len .ensures ∙ stream-is _ _ (c .before .before .before .before .before .new .ensures))) (c .check-rows .ensures)
 
 -- they are met
 met : (c : tie.Else2) → let s = c .before .before .before .before .before .before .before .before .before .before .before .before .before .before .before .before in inOrder (take 6 (encodeRules Field64 (s .args .param) (s .args .gradient .now) (bytes s) (s .args .measurement .now) (s .args .results .now))) ≡ accepted
@@ -61,8 +64,8 @@ new-requires c κs = passed c
 stream-len-requires : tie.Need-stream-len-requires
 stream-len-requires c κs = record { param = _; accepts = passed (c .before); is = c .new .ensures }
 
-check-len-requires : tie.Need-check-len-requires
-check-len-requires c κs = search needs
+check-row-requires : tie.Need-check-row-requires
+check-row-requires c κs = rw (c .stream-len .ensures ∙ stream-is _ _ (c .before .new .ensures)) (stream-some Field64 _ (passed (c .before .before)))
 
 check-rows-requires : tie.Need-check-rows-requires
 check-rows-requires c κs = scale-is _ _ (c .before .before .before .before .new .ensures)
@@ -89,7 +92,7 @@ norm-and-tests-requires c κs =
     let n = c .before .before .before .before .before .before .before .before .new in
     let h = ready Field64 (s .args .param) (s .args .gradient .now) (bytes s) (s .args .measurement .now) (s .args .results .now) (met (c .before)) in
     let w = room Field64 (s .args .param) (s .args .gradient .now) (bytes s) (s .args .measurement .now) (s .args .results .now) (met (c .before)) (length (s .args .found .now)) (whole (c .before)) in
-    (subst (λ (f : ℕ). Usable floorLimit64 f (s .args .gradient .now)) (sym (fraction-is (s .args .param) _ (n .ensures))) (h .usable), (scale-is (s .args .param) _ (n .ensures), (rw (w .whole) (le-of-eq (sym (h .stream-long))), (w .per .1, omega (arith, w .per .0)))))
+    ((subst (λ (f : ℕ). Usable floorLimit64 f (s .args .gradient .now)) (sym (fraction-is (s .args .param) _ (n .ensures))) (h .usable), scale-is (s .args .param) _ (n .ensures)), (rw (w .whole) (le-of-eq (sym (h .stream-long))), (w .tests, w .per)))
 
 finish-requires : tie.Need-finish-requires
 finish-requires c κs =
@@ -97,7 +100,7 @@ finish-requires c κs =
     let n = c .before .before .before .before .before .before .before .before .before .before .before .before .before .before .new in
     let h = ready Field64 (s .args .param) (s .args .gradient .now) (bytes s) (s .args .measurement .now) (s .args .results .now) (met (c .before .before .before .before .before .before .before)) in
     let t = c .before .before .before .before .before .norm-and-tests in
-    ((n .ensures, h .inputs), ((h .usable, t .ensures .0 ∙ ap (λ (f : ℕ). trueSqNorm f (s .args .gradient .now)) (fraction-is (s .args .param) _ (n .ensures))), (results-below p64 (omega arith) _ _ _ _ _ (t .ensures .1), rooms Field64 (s .args .param) (s .args .gradient .now) (bytes s) (s .args .measurement .now) (s .args .results .now) (met (c .before .before .before .before .before .before .before)) (t .last .1 .1 .1 .1 .1 .0) (t .kept .1 .1 .1 .1 .1 .0 ∙ whole (c .before .before .before .before .before .before .before)))))
+    ((n .ensures, h .inputs), ((h .usable, t .ensures .0 ∙ ap (λ (f : ℕ). trueSqNorm f (s .args .gradient .now)) (fraction-is (s .args .param) _ (n .ensures))), (results-below p64 (omega arith) _ _ _ _ _ (t .ensures .1), rooms Field64 (s .args .param) (s .args .gradient .now) (bytes s) (s .args .measurement .now) (s .args .results .now) (met (c .before .before .before .before .before .before .before)) (t .last .1 .1 .1 .1 .1 .1 .0) (t .kept .1 .1 .1 .1 .1 .1 .0 ∙ whole (c .before .before .before .before .before .before .before)))))
 
 same-length-3 : tie.Need-same-length-3
 same-length-3 c = search needs
@@ -113,7 +116,8 @@ returns-3 c =
     let s = c .before .before .before .before .before .before .before .before .before .before .before .before .before .before .before .before .before .before .before .before .before .before .before .before .before .before .before .before in
     let n = c .before .before .before .before .before .before .before .before .before .before .before .before .before .before .before .before .before .before .before .new in
     let t = c .before .before .before .before .before .before .before .before .before .before .norm-and-tests in
-    c .before .before .before .before .finish .ensures ∙ late-is Field64 (s .args .param) (s .args .gradient .now) (bytes s) (s .args .measurement .now) (s .args .results .now) (met (c .before .before .before .before .before .before .before .before .before .before .before .before)) _ (length (s .args .found .now)) _ (whole (c .before .before .before .before .before .before .before .before .before .before .before .before)) (fraction-is (s .args .param) _ (n .ensures)) (t .ensures .1)
+    let w = room Field64 (s .args .param) (s .args .gradient .now) (bytes s) (s .args .measurement .now) (s .args .results .now) (met (c .before .before .before .before .before .before .before .before .before .before .before .before)) (length (s .args .found .now)) (whole (c .before .before .before .before .before .before .before .before .before .before .before .before)) in
+    c .before .before .before .before .finish .ensures ∙ late-is Field64 (s .args .param) (s .args .gradient .now) (bytes s) (s .args .measurement .now) (s .args .results .now) (met (c .before .before .before .before .before .before .before .before .before .before .before .before)) _ (length (s .args .found .now)) _ (whole (c .before .before .before .before .before .before .before .before .before .before .before .before)) (fraction-is (s .args .param) _ (n .ensures)) (rw (w .whole) at (t .ensures .1))
 
 pub encode-in-spec : {M : Type 1} → statement M
 encode-in-spec =
@@ -123,7 +127,7 @@ encode-in-spec =
     returns
     new-requires
     stream-len-requires
-    check-len-requires
+    check-row-requires
     check-rows-requires
     same-length
     same-length-2

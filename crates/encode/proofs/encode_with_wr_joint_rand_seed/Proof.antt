@@ -12,11 +12,11 @@ at-most-requires c κs = search needs
 array-borrow-prefix-found : tie.Need-array-borrow-prefix-found
 array-borrow-prefix-found c = search needs
 
-slice-aggregate-encode-seed-in : tie.Need-slice-aggregate-encode-seed-in
-slice-aggregate-encode-seed-in c = sym (part-long 256 _ (omega (arith, c .before .at-most .ensures)))
+slice-aggregate-encode-in : tie.Need-slice-aggregate-encode-in
+slice-aggregate-encode-in c = sym (part-long 256 _ (omega (arith, c .before .at-most .ensures)))
 
-encode-seed-in-requires : tie.Need-encode-seed-in-requires
-encode-seed-in-requires c κs = part-long 256 _ (omega (arith, c .before .before .before .at-most .ensures)) ∙ c .before .before .before .at-most .ensures
+encode-in-requires : tie.Need-encode-in-requires
+encode-in-requires c κs = part-long 256 _ (omega (arith, c .before .before .before .at-most .ensures)) ∙ c .before .before .before .at-most .ensures
 
 same-length : tie.Need-same-length
 same-length c = search needs
@@ -33,8 +33,8 @@ encode-with-wr-joint-rand-seed-spec =
     (tie.spec
     at-most-requires
     array-borrow-prefix-found
-    slice-aggregate-encode-seed-in
-    encode-seed-in-requires
+    slice-aggregate-encode-in
+    encode-in-requires
     same-length
     same-length-2
     returns)
