@@ -1,7 +1,7 @@
--- `pine_c::param_of` meets its contract. Assumes nothing.
+-- `c_inputs::param_of` meets its contract. Assumes nothing.
 use borrow.Author.Needs.{needs}
-use Rattle.pine_c.proofs.param_of.Statement.{statement}
-use Rattle.pine_c.proofs.param_of.Tie as tie
+use Rattle.c_inputs.proofs.param_of.Statement.{statement}
+use Rattle.c_inputs.proofs.param_of.Tie as tie
 
 rule-of-requires : tie.Need-rule-of-requires
 rule-of-requires c κs = search needs

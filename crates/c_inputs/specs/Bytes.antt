@@ -5,7 +5,7 @@ use lib.Dec.{eqb}
 use Rattle.pine.specs.declared.PineParam.{PineParam}
 use Rattle.pine.specs.declared.WrTestRule.{WrTestRule}
 use Rattle.pine.specs.declared.WrTestRule.the-variants.{Every, Enough}
-use Rattle.pine_c.specs.declared.Inputs.{Inputs}
+use Rattle.c_inputs.specs.declared.Inputs.{Inputs}
 
 abbrev pub ruleOf : (byte : ℕ) → WrTestRule
 ruleOf byte = cond (eqb byte 0) Every Enough

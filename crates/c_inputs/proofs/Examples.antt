@@ -5,8 +5,8 @@ use mathlib.Core.Bool.{Bool, true, false}
 use Rattle.pine.specs.declared.PineParam.{PineParam}
 use Rattle.pine.specs.declared.WrTestRule.{WrTestRule}
 use Rattle.pine.specs.declared.WrTestRule.the-variants.{Every, Enough}
-use Rattle.pine_c.specs.declared.Inputs.{Inputs}
-use Rattle.pine_c.specs.Bytes.{paramOf}
+use Rattle.c_inputs.specs.declared.Inputs.{Inputs}
+use Rattle.c_inputs.specs.Bytes.{paramOf}
 
 -- with these two bytes
 abbrev inputs : (rule switch : ℕ) → Inputs
