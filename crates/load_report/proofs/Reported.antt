@@ -29,7 +29,8 @@ use Rattle.flp.proofs.Fresh.{encode-answers, encode-fresh}
 use Rattle.load_draws.specs.Draws.{gradientOf, streamOf}
 use Rattle.load_text.specs.Text.{loadLimits, numbersOf}
 use Rattle.load_text.proofs.Sense.{long-text}
-use Rattle.load_report.specs.Report.{earlyRules, encodedIn, encodedOf, loadRules, wordsOf, wordsFor, reportOf, writeReportOf}
+use Rattle.load_inputs.specs.Inputs.{earlyRules}
+use Rattle.load_report.specs.Report.{encodedIn, encodedOf, loadRules, wordsOf, wordsFor, reportOf, writeReportOf}
 
 pub two-first : (row : List ℕ) (a b : ℕ) → 2 ≤ length row → take 2 (set (set row 0 a) 1 b) ≡ a ∷ b ∷ []
 two-first [] a b h = absurd (omega arith)

@@ -1,46 +1,26 @@
 -- What is written for the text of a load (docs/PINE.md, "A load"). Assumes nothing.
 use Prim.Native.Nat.{ℕ}
-use mathlib.Core.Bool.{not, cond}
+use mathlib.Core.Bool.{cond}
 use mathlib.Core.List.{List, [], _∷_, _++_}
 use mathlib.Core.Option.{Option, none, some}
 use lib.ListN.{length, getD, replicate}
 use lib.Dec.{eqb}
 use Rattle.rules.specs.declared.Answer.{Answer}
-use Rattle.rules.specs.Rules.{refuse, inOrder}
+use Rattle.rules.specs.Rules.{inOrder}
 use Rattle.rows.specs.Rows.{rowRule}
 use Rattle.rows.specs.Outcome.{Outcome, finish}
 use Rattle.octets.specs.Octets.{elementBytes}
 use Rattle.pine.specs.declared.PineParam.{PineParam}
-use Rattle.pine.specs.declared.WrTestRule.{WrTestRule}
-use Rattle.pine.specs.declared.WrTestRule.the-variants.{Every, Enough}
-use Rattle.pine.specs.Param.{Field64, paramRulesUpTo}
+use Rattle.pine.specs.Param.{Field64}
 use Rattle.pine.specs.Record.{encodedInputLen, streamLen}
 use Rattle.flp.specs.Encode.{Encoded, encodeOf}
 use Rattle.load_draws.specs.Draws.{gradientOf, streamOf}
 use Rattle.load_text.specs.Text.{loadLimits, numbersOf}
-
--- the inputs by the numbers of the lines, of which the seed is the first
-abbrev pub paramOf : List ℕ → PineParam
-paramOf ns = record {
-  «norm_bound» = getD ns 1 0;
-  dimension = getD ns 2 0;
-  «frac_bits» = getD ns 3 0;
-  «chunk_len» = getD ns 4 0;
-  «chunk_len_sq_norm_equal» = getD ns 5 0;
-  «num_wr_tests» = getD ns 6 0;
-  «num_wr_successes» = getD ns 7 0;
-  «alpha_numerator» = getD ns 8 0;
-  «alpha_denominator» = getD ns 9 0;
-  «wr_test_rule» = cond (eqb (getD ns 10 0) 0) Every Enough;
-  «true_sq_norm» = not (eqb (getD ns 11 0) 0);
-}
+use Rattle.load_inputs.specs.Inputs.{paramOf, earlyRules}
 
 module _ (seed : ℕ) (i : PineParam) where
   abbrev bytes : ℕ
   bytes = streamLen (i .«num_wr_tests») (i .dimension)
-
-  abbrev pub earlyRules : List Answer
-  earlyRules = inOrder (paramRulesUpTo Field64 1024 16 i) ∷ refuse (eqb seed 0) 22 0 ∷ []
 
   -- the gradient that the seed makes, encoded with the stream that it makes, into rows of a measurement and results
   abbrev pub encodedIn : (measurement results : List ℕ) → Encoded
@@ -52,7 +32,7 @@ module _ (seed : ℕ) (i : PineParam) where
 
   -- the rules in their order: 1 to 6 and 19, for a dimension up to 1024 and up to 16 tests; 22; and those of encoding
   unfoldable pub loadRules : List Answer
-  loadRules = earlyRules ++ (encodedOf .answer ∷ [])
+  loadRules = earlyRules seed i ++ (encodedOf .answer ∷ [])
 
   -- the numbers that are written: the measurement and the results, or a refusal's number and place
   unfoldable pub wordsOf : List ℕ

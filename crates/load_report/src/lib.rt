@@ -1,30 +1,23 @@
 // A load: a report of a made-up gradient, from the text of a seed and the inputs (docs/PINE.md, "A load").
 use pine::PineParam;
-use pine::WrTestRule;
 use pine::record::Pine;
 use rules::Answer;
 ghost use mathlib.Core.Path.{_≡_};
-ghost use mathlib.Core.Bool.{true, false, cond};
 ghost use mathlib.Core.List.{[], _∷_};
 ghost use Prim.Native.Nat.{_≤_, _+_, _*_};
-ghost use lib.ListN.{length, getD, take};
-ghost use lib.Dec.{eqb};
-ghost use Rattle.rules.specs.Rules.{accepted, refuse, first, inOrder};
+ghost use lib.ListN.{length, take};
+ghost use Rattle.rules.specs.Rules.{first, inOrder};
 ghost use Rattle.rows.specs.Outcome.{outcome};
-ghost use Rattle.pine.specs.declared.WrTestRule.the-variants.{Every, Enough};
 ghost use Rattle.pine.specs.Param.{Field64, paramRulesUpTo};
 ghost use Rattle.pine.specs.Record.{encodedInputLen};
 ghost use Rattle.flp.specs.Encode.{encodeOutcome, encodeOf};
 ghost use Rattle.load_draws.specs.Draws.{gradientOf, streamOf};
 ghost use Rattle.load_text.specs.Text.{loadLimits, numbersOf};
-ghost use Rattle.load_report.specs.Report.{paramOf, earlyRules, encodedIn, wordsOf, wordsFor, reportOf, writeReportOf};
+ghost use Rattle.load_inputs.specs.Inputs.{earlyRules};
+ghost use Rattle.load_report.specs.Report.{encodedIn, wordsOf, wordsFor, reportOf, writeReportOf};
 
-// The largest dimension and number of tests, and what follows from them: the bytes of a stream; the elements of a
-// measurement, and of it with its results.
-const MAX_DIMENSION: u64 = 1024;
-
-const MAX_WR_TESTS: u64 = 16;
-
+// The coordinates of a load at most, and what follows from these and from 16 tests: the bytes of a stream; the elements of
+// a measurement, and of it with its results.
 const GRADIENT: usize = 1024;
 
 const STREAM: usize = 4096;
@@ -35,46 +28,6 @@ const WORDS: usize = 1968;
 
 // The bytes that a report has at most.
 pub const MAX_REPORT_LEN: usize = 15744;
-
-// The rule of the tests, 0 for the first.
-fn wr_test_rule(n: u64) -> WrTestRule
-    ensures { λ r. ⌜ r ≡ cond (eqb n 0) Every Enough ⌝ }
-{
-    if n == 0 {
-        WrTestRule::Every
-    } else {
-        WrTestRule::Enough
-    }
-}
-
-// The inputs by the numbers of the lines.
-fn param_of(numbers: [u64; 12]) -> PineParam
-    requires { ⌜ (getD numbers 8 0 ≤ 65535) × (getD numbers 9 0 ≤ 65535) ⌝ }
-    ensures { λ r. ⌜ r ≡ paramOf numbers ⌝ }
-{
-    PineParam {
-        norm_bound: numbers[1],
-        dimension: numbers[2],
-        frac_bits: numbers[3],
-        chunk_len: numbers[4],
-        chunk_len_sq_norm_equal: numbers[5],
-        num_wr_tests: numbers[6],
-        num_wr_successes: numbers[7],
-        alpha_numerator: numbers[8] as u16,
-        alpha_denominator: numbers[9] as u16,
-        wr_test_rule: wr_test_rule(numbers[10]),
-        true_sq_norm: numbers[11] != 0,
-    }
-}
-
-// Rules 1 to 6, 19 and 22.
-fn check_load(seed: u64, param: PineParam) -> Answer
-    ensures { λ r. ⌜ r ≡ inOrder (earlyRules seed param) ⌝ }
-{
-    let inputs = params::check_param_up_to(param, MAX_DIMENSION, MAX_WR_TESTS);
-    let seed_rule = Answer::refuse_if(seed == 0, rules::LOAD_SEED, 0);
-    inputs.or(seed_rule)
-}
 
 // The gradient that a seed makes, encoded with the stream that it makes.
 fn encode_drawn(
@@ -148,7 +101,7 @@ fn write_words(seed: u64, param: PineParam, row: &mut [u64]) -> usize
     requires { ⌜ length (now row) ≡ 1968 ⌝ }
     ensures { λ r. ⌜ (take r (now (row .exit)) ≡ wordsOf seed param) × (r ≤ 1968) ⌝ }
 {
-    let early = check_load(seed, param);
+    let early = load_inputs::check_load(seed, param);
     if early.number != 0 {
         return write_answer(early, row);
     }
@@ -168,7 +121,7 @@ fn write_words_for(text: &[u8], row: &mut [u64]) -> usize
     if !load_text::read_numbers(text, &mut numbers) {
         return 0;
     }
-    write_words(numbers[0], param_of(numbers), row)
+    write_words(numbers[0], load_inputs::param_of(numbers), row)
 }
 
 // How many bytes a load writes.

@@ -8,7 +8,7 @@ use Rattle.rules.specs.declared.Answer.{Answer}
 use Rattle.rules.specs.Rules.{inOrder}
 use Rattle.pine.specs.declared.record.Pine.{Pine}
 use Rattle.pine.specs.Record.{pineOf, encodedInputLen}
-use Rattle.load_report.specs.Report.{earlyRules}
+use Rattle.load_inputs.specs.Inputs.{earlyRules}
 use Rattle.load_report.proofs.Reported.{Room, room, inputs-passed, words-early, part-long}
 use Rattle.load_report.proofs.write_words.Statement.{statement}
 use Rattle.load_report.proofs.write_words.Tie as tie

@@ -1,7 +1,7 @@
--- `load_report::wr_test_rule` meets its contract. Assumes nothing.
+-- `load_inputs::wr_test_rule` meets its contract. Assumes nothing.
 use borrow.Author.Tests.{eq-eqb, ne-eqb}
-use Rattle.load_report.proofs.wr_test_rule.Statement.{statement}
-use Rattle.load_report.proofs.wr_test_rule.Tie as tie
+use Rattle.load_inputs.proofs.wr_test_rule.Statement.{statement}
+use Rattle.load_inputs.proofs.wr_test_rule.Tie as tie
 
 returns : tie.Need-returns
 returns c = simp (eq-eqb _ 0 (c .if1 .taken))

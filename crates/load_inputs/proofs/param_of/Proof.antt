@@ -1,7 +1,7 @@
--- `load_report::param_of` meets its contract. Assumes nothing.
+-- `load_inputs::param_of` meets its contract. Assumes nothing.
 use borrow.Author.Needs.{needs}
-use Rattle.load_report.proofs.param_of.Statement.{statement}
-use Rattle.load_report.proofs.param_of.Tie as tie
+use Rattle.load_inputs.proofs.param_of.Statement.{statement}
+use Rattle.load_inputs.proofs.param_of.Tie as tie
 
 array-read-t5 : tie.Need-array-read-t5
 array-read-t5 c = search needs

@@ -1,9 +1,9 @@
--- `load_report::check_load` meets its contract. Assumes nothing.
+-- `load_inputs::check_load` meets its contract. Assumes nothing.
 use borrow.Author.Needs.{needs}
 use lib.Dec.{eqb}
 use Rattle.rules.proofs.Chain.{refuse-last}
-use Rattle.load_report.proofs.check_load.Statement.{statement}
-use Rattle.load_report.proofs.check_load.Tie as tie
+use Rattle.load_inputs.proofs.check_load.Statement.{statement}
+use Rattle.load_inputs.proofs.check_load.Tie as tie
 
 check-param-up-to-requires : tie.Need-check-param-up-to-requires
 check-param-up-to-requires c κs = search needs

@@ -1,0 +1,2 @@
+-- The inputs of a load.
+pub mod Inputs
