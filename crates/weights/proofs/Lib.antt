@@ -1,2 +1,2 @@
 -- What the proofs of the functions cite: `Weights` of a test's weights.
-mod Weights
+pub mod Weights

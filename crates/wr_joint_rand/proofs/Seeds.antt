@@ -75,6 +75,3 @@ lent seeded n row e = ap (λ (b : Bool). streamFrom b n row) e
 
 pub from-seed : (seeded : Bool) (n : ℕ) (row : List ℕ) → seeded ≡ true → streamFrom seeded n row ≡ wrStream n row
 from-seed seeded n row e = ap (λ (b : Bool). streamFrom b n row) e
-
-pub seed-long : (seeded : Bool) (n : ℕ) (row : List ℕ) → seeded ≡ true → 0 < n → n ≤ length (streamFrom seeded n row) → length row ≡ 16
-seed-long seeded n row e some room = is-seed n row some (rw (from-seed seeded n row e) at room)

@@ -68,7 +68,7 @@ fn run_blocks(gradient: &[u64], per: usize, stream: Sponge, buffer: &mut [u8], r
 }
 
 // The tests on elements, with the bytes of a seed.
-fn run_from_seed(gradient: &[u64], per: usize, seed: &[u8], results: &mut [u64])
+pub fn run_from_seed(gradient: &[u64], per: usize, seed: &[u8], results: &mut [u64])
     requires { ⌜ (length (now seed) ≡ 16) × ((0 < length (now results)) × (length (now results) ≤ 256)) ⌝ }
     requires { ⌜ Below p64 (now gradient) × (((0 < per) × (per ≤ 16384)) × (length (now gradient) ≤ 4 * per)) ⌝ }
     ensures { λ _. ⌜ now (results .exit) ≡ testsOf p64 per (length (now (results .entry))) (wrStream (length (now (results .entry)) * per) (now (seed .entry))) (now (gradient .entry)) ⌝ }
@@ -81,20 +81,6 @@ fn run_from_seed(gradient: &[u64], per: usize, seed: &[u8], results: &mut [u64])
     }
     let mut buffer = [0u8; 16384];
     run_blocks(gradient, per, stream, &mut buffer, results);
-}
-
-// The tests on elements.
-pub fn run_tests(gradient: &[u64], per: usize, seeded: bool, row: &[u8], results: &mut [u64])
-    requires { ⌜ length (now results) * per ≤ length (streamFrom seeded (length (now results) * per) (now row)) ⌝ }
-    requires { ⌜ (0 < length (now results)) × (length (now results) ≤ 256) ⌝ }
-    requires { ⌜ Below p64 (now gradient) × (((0 < per) × (per ≤ 16384)) × (length (now gradient) ≤ 4 * per)) ⌝ }
-    ensures { λ _. ⌜ now (results .exit) ≡ testsOf p64 per (length (now (results .entry))) (streamFrom seeded (length (now (results .entry)) * per) (now (row .entry))) (now (gradient .entry)) ⌝ }
-{
-    if seeded {
-        run_from_seed(gradient, per, row, results);
-        return;
-    }
-    columns::run_block(gradient, per, row, results);
 }
 
 // The tests on a gradient's elements, with the next bytes of a stream, and its squared norm without reduction.

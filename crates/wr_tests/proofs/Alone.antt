@@ -18,17 +18,16 @@ use Rattle.pine.proofs.Limits.{limits}
 use Rattle.rows.proofs.Lengths.{row-right}
 use Rattle.rows.proofs.Elements.{elements-below}
 use Rattle.flp.specs.Tests.{testsOf, runTestsRules, runTestsOf}
+use Rattle.wr_joint_rand.proofs.Blocks.{some-bytes}
 
 module _ (F : Field) (i : PineParam) (xs s d : List ℕ) where
-  -- the answers to the rules after the first six
-  pub tests-answer : (a₁ a₂ a₃ a₄ : Answer) → paramAnswer F i .number ≡ 0
-      → a₁ ≡ rowRule 1 (length xs) (i .dimension)
+  -- the answer to the rules after the first six
+  pub tests-answer : (a a₂ : Answer) → paramAnswer F i .number ≡ 0
       → a₂ ≡ rowRule 2 (length s) (streamLen (i .«num_wr_tests») (i .dimension))
-      → a₃ ≡ rowRule 3 (length d) (i .«num_wr_tests»)
-      → a₄ ≡ elementsRule (F .p) xs
-      → first a₁ (first a₂ (first a₃ a₄)) ≡ inOrder (runTestsRules F i xs s d)
+      → a ≡ first (rowRule 1 (length xs) (i .dimension)) (first a₂ (first (rowRule 3 (length d) (i .«num_wr_tests»)) (elementsRule (F .p) xs)))
+      → a ≡ inOrder (runTestsRules F i xs s d)
   unfolding runTestsRules
-  tests-answer a₁ a₂ a₃ a₄ h e₁ e₂ e₃ e₄ = simp (e₁, e₂, e₃, e₄, eq-eqb _ _ h, refuse-last (ltb (firstBad (F .p) xs) (length xs)) 11 (0 + firstBad (F .p) xs))
+  tests-answer a a₂ h e₂ e = e ∙ simp (e₂, eq-eqb _ _ h, refuse-last (ltb (firstBad (F .p) xs) (length xs)) 11 (0 + firstBad (F .p) xs))
 
   -- one of the first six is broken
   pub stopped : (a : Answer) → a ≡ paramAnswer F i → (a .number ≡ 0 → ⊥) → a ≡ inOrder (runTestsRules F i xs s d)
@@ -58,12 +57,14 @@ module _ (F : Field) (i : PineParam) (xs s d : List ℕ) where
       -- the tests have room, and take the whole stream
       pub record Room : Type 0 where
         pub whole : length d * ((length xs + 3) / 4) ≡ streamLen (i .«num_wr_tests») (i .dimension)
+        pub some : 0 < streamLen (i .«num_wr_tests») (i .dimension)
         pub tests : (0 < length d) × (length d ≤ 256)
         pub per : ((0 < (length xs + 3) / 4) × ((length xs + 3) / 4 ≤ 16384)) × (length xs ≤ 4 * ((length xs + 3) / 4))
 
       pub room : Room
       room = record {
         whole = λ j. met .row-3 j * bytesPerTest (met .row-1 j);
+        some = some-bytes (i .«num_wr_tests») (bytesPerTest (i .dimension)) (met .tests .0) (omega (arith, met .dimension));
         tests = (omega (arith, met .row-3, met .tests), omega (arith, met .row-3, met .tests));
         per = ((omega (arith, met .row-1, met .dimension), omega (arith, met .row-1, met .dimension)), omega arith);
       }

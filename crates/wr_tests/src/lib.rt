@@ -1,47 +1,58 @@
 // The wraparound tests alone (`run_wr_tests` of pine/flp.rs of the Rust).
 use pine::PineParam;
-use pine::record::Pine;
 use rules::Answer;
 ghost use mathlib.Core.Path.{_≡_};
-ghost use Rattle.rules.specs.Rules.{inOrder};
+ghost use Prim.Native.Nat.{_≤_};
+ghost use lib.ListN.{length};
+ghost use Rattle.rules.specs.Rules.{first, inOrder};
+ghost use Rattle.field64.specs.Field.{p64};
 ghost use Rattle.pine.specs.Param.{Field64};
 ghost use Rattle.pine.specs.Record.{streamLen};
+ghost use Rattle.rows.specs.Rows.{rowRule, elementsRule};
 ghost use Rattle.rows.specs.Outcome.{outcome};
 ghost use Rattle.flp.specs.Tests.{runTestsRules, runTestsOf};
-ghost use Rattle.wr_joint_rand.specs.WrJointRand.{wrStream, streamFrom};
+ghost use Rattle.wr_joint_rand.specs.WrJointRand.{wrStream};
 
-// The rules of the wraparound tests: those on the inputs, 7 and 12.
-fn check_tests(
-    param: PineParam,
-    gradient: &[u64],
-    seeded: bool,
-    row: &[u8],
-    results: &[u64],
-) -> Answer
-    ensures { λ r. ⌜ r ≡ inOrder (runTestsRules Field64 param (now (gradient .entry)) (streamFrom seeded (streamLen (param .«num_wr_tests») (param .dimension)) (now (row .entry))) (now (results .entry))) ⌝ }
+// The bytes of the stream. The record has them too, but deriving it takes as long as a small test.
+fn stream_len(param: PineParam) -> u64
+    requires { ⌜ (param .«num_wr_tests» ≤ 256) × (param .dimension ≤ 65536) ⌝ }
+    ensures { λ r. ⌜ r ≡ streamLen (param .«num_wr_tests») (param .dimension) ⌝ }
+{
+    param.num_wr_tests * ((param.dimension + 3) / 4)
+}
+
+// Rules 7 and 12, where rule 7 of row 2 has this answer.
+fn check_rows(param: PineParam, gradient: &[u64], row_2: Answer, results: &[u64]) -> Answer
+    ensures { λ r. ⌜ r ≡ first (rowRule 1 (length (now (gradient .entry))) (param .dimension)) (first «row_2» (first (rowRule 3 (length (now (results .entry))) (param .«num_wr_tests»)) (elementsRule p64 (now (gradient .entry))))) ⌝ }
+{
+    let row_1 = rows::check_len(1, gradient.len(), param.dimension);
+    let row_3 = rows::check_len(3, results.len(), param.num_wr_tests);
+    let elements = rows::check_elements(gradient, 0);
+    row_1.or(row_2.or(row_3.or(elements)))
+}
+
+// The rules of the tests with a lent stream: those on the inputs, 7 and 12.
+fn check_lent(param: PineParam, gradient: &[u64], stream: &[u8], results: &[u64]) -> Answer
+    ensures { λ r. ⌜ r ≡ inOrder (runTestsRules Field64 param (now (gradient .entry)) (now (stream .entry)) (now (results .entry))) ⌝ }
 {
     let inputs = params::check_param(param);
     if inputs.number != 0 {
         return inputs;
     }
-    let pine = Pine::new(param);
-    let row_1 = rows::check_len(1, gradient.len(), pine.dimension);
-    let row_2 = wr_joint_rand::check_row(seeded, row, pine.stream_len());
-    let row_3 = rows::check_len(3, results.len(), pine.num_wr_tests);
-    let elements = rows::check_elements(gradient, 0);
-    row_1.or(row_2.or(row_3.or(elements)))
+    let row_2 = rows::check_len(2, stream.len(), stream_len(param));
+    check_rows(param, gradient, row_2, results)
 }
 
-// The tests, whose bytes are row 2, or come of the seed that it has.
-fn run(param: PineParam, gradient: &[u64], seeded: bool, row: &[u8], results: &mut [u64]) -> Answer
-    ensures { λ r. ⌜ outcome r (now (results .exit)) ≡ runTestsOf Field64 param (now (gradient .entry)) (streamFrom seeded (streamLen (param .«num_wr_tests») (param .dimension)) (now (row .entry))) (now (results .entry)) ⌝ }
+// The same with a seed.
+fn check_seeded(param: PineParam, gradient: &[u64], seed: &[u8], results: &[u64]) -> Answer
+    ensures { λ r. ⌜ r ≡ inOrder (runTestsRules Field64 param (now (gradient .entry)) (wrStream (streamLen (param .«num_wr_tests») (param .dimension)) (now (seed .entry))) (now (results .entry))) ⌝ }
 {
-    let answer = check_tests(param, gradient, seeded, row, results);
-    if answer.number != 0 {
-        return answer;
+    let inputs = params::check_param(param);
+    if inputs.number != 0 {
+        return inputs;
     }
-    wr_joint_rand::run_tests(gradient, (gradient.len() + 3) / 4, seeded, row, results);
-    answer
+    let row_2 = wr_joint_rand::check_row(true, seed, stream_len(param));
+    check_rows(param, gradient, row_2, results)
 }
 
 // Runs the wraparound tests on the gradient's elements, with the lent stream.
@@ -53,7 +64,12 @@ pub fn run_wr_tests(
 ) -> Answer
     ensures { λ r. ⌜ outcome r (now (results .exit)) ≡ runTestsOf Field64 param (now (gradient .entry)) (now (stream .entry)) (now (results .entry)) ⌝ }
 {
-    run(param, gradient, false, stream, results)
+    let answer = check_lent(param, gradient, stream, results);
+    if answer.number != 0 {
+        return answer;
+    }
+    columns::run_block(gradient, (gradient.len() + 3) / 4, stream, results);
+    answer
 }
 
 // The same, with the stream that a seed of 16 bytes makes.
@@ -65,5 +81,10 @@ pub fn run_wr_tests_seed(
 ) -> Answer
     ensures { λ r. ⌜ outcome r (now (results .exit)) ≡ runTestsOf Field64 param (now (gradient .entry)) (wrStream (streamLen (param .«num_wr_tests») (param .dimension)) (now (seed .entry))) (now (results .entry)) ⌝ }
 {
-    run(param, gradient, true, seed, results)
+    let answer = check_seeded(param, gradient, seed, results);
+    if answer.number != 0 {
+        return answer;
+    }
+    wr_joint_rand::run_from_seed(gradient, (gradient.len() + 3) / 4, seed, results);
+    answer
 }

@@ -1,0 +1,2 @@
+-- Sums byte by byte.
+pub mod ByteColumns
