@@ -1,8 +1,18 @@
 -- The bytes of several tests at once, some of each, each drawn from a state of the stream of its own. No public contract cites these. Assumes nothing.
 use mathlib.Core.List.{List, [], _∷_, _++_}
-use Prim.Native.Nat.{ℕ, zero, suc, _<_}
+use Prim.Native.Nat.{ℕ, zero, suc, _≤_, _<_}
+use lib.ListN.{length, getD, take, drop}
 use Rattle.turboshake.specs.declared.Sponge.{Sponge}
-use Rattle.turboshake.specs.Stream.{drawn, after}
+use Rattle.turboshake.specs.Stream.{sponge, drawn, after}
+
+-- the state that 26 words hold: its lanes, then its place
+abbrev pub stateOf : List ℕ → Sponge
+stateOf ws = sponge (take 25 ws) (getD ws 25 0)
+
+-- the states that a row holds for T tests
+abbrev pub statesOf : (T : ℕ) → List ℕ → List Sponge
+statesOf zero ws = []
+statesOf (suc T) ws = stateOf (take 26 ws) ∷ statesOf T (drop 26 ws)
 
 -- the states from which T tests draw, each `per` bytes after the one before
 abbrev pub startsOf : (per T : ℕ) → Sponge → List Sponge
@@ -23,3 +33,7 @@ allAfter n (s ∷ ss) = after n s ∷ allAfter n ss
 abbrev pub Ready : List Sponge → Type 0
 Ready [] = Unit {0}
 Ready (s ∷ ss) = (s .at < 168) × Ready ss
+
+-- rows that are long enough for a block of T tests: 26 words of state and 160 bytes of tile for each of 50
+abbrev pub BlockRows : (T : ℕ) (states buffer : List ℕ) → Type 0
+BlockRows T states buffer = (T ≤ 50) × ((1300 ≤ length states) × (8000 ≤ length buffer))

@@ -1,11 +1,12 @@
 -- Tests taken some at a time, each with the next bytes of a stream. Assumes nothing.
 use mathlib.Core.Path.{_≡_, refl, sym, ap, ap₂, _∙_}
+use mathlib.Core.Logic.{_⊎_, ⊎-elim}
 use mathlib.Core.List.{List, [], _∷_, _++_, map, map-append, append-assoc, append-nil}
 use Prim.Native.Nat.{ℕ, zero, suc, _+_, _*_, _/_, _-_, _≤_, _<_, min}
 use native.Mathlib.Omega.{arith}
 use native.Mathlib.Nat.{zero-add, add-zero, zero-mul, suc-add, le-div-iff-mul-le, mul-le-mul, mul-le-mul-right, le-trans, le-of-eq}
 use lib.ListN.{length, take, drop, length-drop, length-append, take-append-drop}
-use lib.Seq.{take-append-seam, take-append-le, drop-append-le, take-all, length-take-le}
+use lib.Seq.{take-at, take-append-seam, take-append-le, drop-append-le, take-all, length-take-le}
 use Rattle.flp.specs.Bits.{groups}
 use Rattle.flp.specs.Tests.{testOf, testsOf}
 use Rattle.turboshake.specs.declared.Sponge.{Sponge}
@@ -49,6 +50,11 @@ drawn-front count n front rest s h is =
     let l : length front ≡ count = ap length is ∙ length-drawn n s ∙ h in
     ap (λ (k : ℕ). take k (front ++ rest)) (sym l) ∙ take-append-seam front rest ∙ is ∙ ap (λ (k : ℕ). drawn k s) h
 
+-- tests that took their bytes from a buffer took those that were drawn into it
+pub from-buffer : (p per T : ℕ) (buffer xs rs : List ℕ) (s : Sponge) → T * per ≤ length buffer → take (T * per) buffer ≡ drawn (T * per) s → rs ≡ testsOf p per T buffer xs → rs ≡ testsOf p per T (drawn (T * per) s) xs
+unfolding testsOf
+from-buffer p per T buffer xs rs s room filled is = is ∙ ap (map (testOf p xs)) (groups-front per T buffer room ∙ ap (groups per T) filled)
+
 module _ (p per : ℕ) (xs : List ℕ) (s : Sponge) where
   -- the first t results are those of the tests
   abbrev pub Done : (t : ℕ) (results : List ℕ) → Type 0
@@ -69,7 +75,7 @@ module _ (p per : ℕ) (xs : List ℕ) (s : Sponge) where
   pub next : (t e n : ℕ) (buffer rs part rest : List ℕ) → (t ≤ e) × (e ≤ length rs) → length part ≡ e - t → n ≡ e - t → (e - t) * per ≤ length buffer → take ((e - t) * per) buffer ≡ drawn ((e - t) * per) (after (t * per) s) → Done t rs → part ≡ testsOf p per n buffer xs → Done e (take t rs ++ (part ++ rest))
   unfolding testsOf
   next t e n buffer rs part rest h l en room filled d of-buffer =
-      let is : part ≡ testsOf p per (e - t) (drawn ((e - t) * per) (after (t * per) s)) xs = of-buffer ∙ ap (λ (m : ℕ). testsOf p per m buffer xs) en ∙ ap (map (testOf p xs)) (groups-front per (e - t) buffer room ∙ ap (groups per (e - t)) filled) in
+      let is : part ≡ testsOf p per (e - t) (drawn ((e - t) * per) (after (t * per) s)) xs = from-buffer p per (e - t) buffer xs part (after (t * per) s) room filled (of-buffer ∙ ap (λ (m : ℕ). testsOf p per m buffer xs) en) in
       let front : length (take t rs) ≡ t = length-take-le t rs (omega (arith, h)) in
       let both : length (take t rs ++ part) ≡ e = length-append (take t rs) part ∙ omega (arith, front, l, h) in
       let sum : t + (e - t) ≡ e = omega (arith, h) in
@@ -83,13 +89,12 @@ module _ (p per : ℕ) (xs : List ℕ) (s : Sponge) where
       let long : length bytes ≡ (e - t) * per = length-drawn ((e - t) * per) (after (t * per) s) in
       next t e n bytes rs part rest h l en (le-of-eq (sym long)) (take-all ((e - t) * per) bytes (le-of-eq long)) d (is ∙ ap₂ (λ (m : ℕ) (v : Sponge). testsOf p per n (drawn (m * per) v) xs) en on)
 
+  -- the first block's
+  pub first-done : (t n : ℕ) (part rest : List ℕ) → length part ≡ t → n ≡ t → part ≡ testsOf p per n (drawn (n * per) s) xs → Done t (part ++ rest)
+  first-done t n part rest l en is = take-at part rest t l ∙ is ∙ ap (λ (m : ℕ). testsOf p per m (drawn (m * per) s) xs) en
+
   pub all : (t : ℕ) (rs : List ℕ) → t ≡ length rs → Done t rs → rs ≡ testsOf p per t (drawn (t * per) s) xs
   all t rs h d = sym (take-all t rs (omega (arith, h))) ∙ d
-
--- no test has no result
-pub no-results : (p per : ℕ) (bytes xs rs rest : List ℕ) → rs ≡ testsOf p per 0 bytes xs → rs ++ rest ≡ rest
-unfolding testsOf groups
-no-results p per bytes xs rs rest e = ap (λ (r : List ℕ). r ++ rest) e
 
 -- a block: the tests from t on, up to e, of T; a buffer of n bytes holds those of so many
 module _ (per n T t e : ℕ) (h : (0 < per) × (per ≤ n)) (more : t < T) (is : e ≡ min (t + n / per) T) where
@@ -111,11 +116,17 @@ fewer per m n a b e h f = rw (e, ← f) h
 pub short-per : (T per n : ℕ) → 0 < T → T * per ≤ n → per ≤ n
 short-per T per n h l = le-trans (omega (arith, mul-le-mul-right per h)) l
 
--- where some test fits the buffer, one does
-pub one-fits : (T per n m fit most : ℕ) → 0 < T → 0 < m → 0 < per → fit ≡ n / per → most ≡ min T m → most ≤ fit → per ≤ n
-one-fits T per n m fit most t k h f e l =
-    let some : 1 ≤ n / per = omega (arith, t, k, f, e, l) in
-    omega (arith, le-div-iff-mul-le h .0 some)
+-- a block that fits the buffer, or goes by tiles
+abbrev pub Small : (per n : ℕ) → Type 0
+Small per n = (n * per ≤ 8192) ⊎ (n ≤ 50)
+
+pub fits-some : (T per fit most r : ℕ) → 0 < T → 0 < per → fit ≡ 8192 / per → most ≡ min T 7 → most ≤ fit → r ≡ min T fit → ((0 < r) × (r ≤ T)) × (r * per ≤ 8192)
+fits-some T per fit most r t h f e l is =
+    let within : r ≤ 8192 / per = omega (arith, f, is) in
+    ((omega (arith, t, e, l, is), omega (arith, is)), le-div-iff-mul-le h .0 within)
+
+pub by-tiles : (per n : ℕ) → 8192 < n * per → Small per n → n ≤ 50
+by-tiles per n h s = ⊎-elim (λ l. absurd (omega (arith, h, l))) (λ l. l) s
 
 -- how many bytes the tests take
 pub some-bytes : (T per : ℕ) → 0 < T → 0 < per → 0 < T * per

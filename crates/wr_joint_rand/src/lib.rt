@@ -2,8 +2,10 @@
 // many tests at a time as fit: no row holds them all. A function here asks its caller for what it does not test itself.
 use rules::Answer;
 use sums::Sum;
+use tiles::Taken;
 use turboshake::Sponge;
 ghost use mathlib.Core.Path.{_≡_};
+ghost use mathlib.Core.Logic.{_⊎_};
 ghost use Prim.Native.Nat.{_*_, _≤_, _<_};
 ghost use lib.ListN.{length, take};
 ghost use Rattle.field64.specs.Field.{p64};
@@ -19,6 +21,9 @@ ghost use Rattle.wr_joint_rand.specs.WrJointRand.{wrStream, streamFrom};
 
 // The bytes in a seed.
 const SEED_LEN: u64 = 16;
+
+// So many bytes are drawn at a time.
+const BUFFER: usize = 8192;
 
 // So many tests are enough for a block: they go by tables.
 const MANY: usize = 7;
@@ -83,63 +88,104 @@ pub fn run_from_seed(gradient: &[u64], per: usize, seed: &[u8], results: &mut [u
     run_blocks(gradient, per, stream, &mut buffer, results);
 }
 
-// The tests on a gradient's elements, with the next bytes of a stream, and its squared norm without reduction.
-fn norm_and_blocks(
+// How many tests the next block takes, of so many that are left: as many as fit the buffer. Where these are few, the
+// coordinates would be converted again for every few, so they go by tiles.
+fn block_len(per: usize, tests: usize) -> usize
+    requires { ⌜ (0 < per) × (0 < tests) ⌝ }
+    ensures { λ r. ⌜ ((0 < r) × (r ≤ tests)) × ((r * per ≤ 8192) ⊎ (r ≤ 50)) ⌝ }
+{
+    let fit = BUFFER / per;
+    if fit < groups::at_most(tests, MANY) {
+        return groups::at_most(tests, tiles::TESTS);
+    }
+    groups::at_most(tests, fit)
+}
+
+// A block of tests on a gradient's elements, with the next bytes of a stream. It is called from two places, so that LLVM
+// does not add its rows to its caller's stack.
+fn take_block(
     gradient: &[f64],
     scale: f64,
     frac_bits: u64,
     per: usize,
     stream: Sponge,
-    buffer: &mut [u8],
     results: &mut [u64],
-) -> Sum
+) -> Taken
     requires { ⌜ Usable floorLimit64 «frac_bits» (now gradient) × (scale ≡ power «frac_bits») ⌝ }
-    requires { ⌜ (stream .at < 168) × (((0 < per) × (per ≤ length (now buffer))) × (length (now buffer) ≤ 16384)) ⌝ }
-    requires { ⌜ (0 < length (now results)) × ((length (now gradient) ≤ 4 * per) × (length (now results) ≤ 256)) ⌝ }
-    ensures { λ r. ⌜ wordsOf r ≡ trueSqNorm «frac_bits» (now (gradient .entry)) ⌝ }
+    requires { ⌜ ((0 < per) × (per ≤ 16384)) × (length (now gradient) ≤ 4 * per) ⌝ }
+    requires { ⌜ (stream .at < 168) × ((0 < length (now results)) × (length (now results) ≤ 256)) ⌝ }
+    requires { ⌜ (length (now results) * per ≤ 8192) ⊎ (length (now results) ≤ 50) ⌝ }
+    ensures { λ r. ⌜ wordsOf (r .norm) ≡ trueSqNorm «frac_bits» (now (gradient .entry)) ⌝ }
+    ensures { λ r. ⌜ (r .next ≡ after (length (now (results .entry)) * per) stream) × (r .next .at < 168) ⌝ }
     ensures { λ _. ⌜ now (results .exit) ≡ testsOf p64 per (length (now (results .entry))) (drawn (length (now (results .entry)) * per) stream) (elements p64 «frac_bits» (now (gradient .entry))) ⌝ }
 {
-    let most = buffer.len() / per;
-    let mut rest = stream;
-    let mut norm = Sum::none();
-    let mut t = 0;
-    while t < results.len() {
-        let end = groups::at_most(t + most, results.len());
-        rest = draw(rest, (end - t) * per, buffer);
-        norm = gradient::norm_and_tests(
+    let mut buffer = [0u8; 8192];
+    let mut row = [0u64; 256];
+    let mut spare = [0u64; 256];
+    let count = results.len() * per;
+    if count <= BUFFER {
+        let next = draw(stream, count, &mut buffer);
+        let norm = gradient::norm_and_block(
             gradient,
             scale,
             frac_bits,
             per,
-            buffer,
-            &mut results[t..end],
+            &buffer,
+            &mut row,
+            &mut spare,
+            results,
         );
-        t = end;
+        return Taken { next, norm };
     }
-    norm
+    let mut states = [0u64; 1300];
+    tiles::run_block(
+        gradient,
+        scale,
+        frac_bits,
+        per,
+        stream,
+        &mut states,
+        &mut buffer,
+        &mut row,
+        &mut spare,
+        results,
+    )
 }
 
-// The tests on a gradient's elements, with the next bytes of a stream: for tests that are so long that few fit a buffer.
-fn run_long_tests(
+// The tests on a gradient's elements block by block, with the next bytes of a stream. Each block gives the squared norm:
+// that of the first is the answer.
+fn take_blocks(
     gradient: &[f64],
     scale: f64,
     frac_bits: u64,
     per: usize,
     stream: Sponge,
     results: &mut [u64],
-)
+) -> Sum
     requires { ⌜ Usable floorLimit64 «frac_bits» (now gradient) × (scale ≡ power «frac_bits») ⌝ }
-    requires { ⌜ (stream .at < 168) × (length (now results) ≤ 256) ⌝ }
-    requires { ⌜ (per ≤ 16384) × (length (now gradient) ≤ 4 * per) ⌝ }
+    requires { ⌜ ((0 < per) × (per ≤ 16384)) × (length (now gradient) ≤ 4 * per) ⌝ }
+    requires { ⌜ (stream .at < 168) × ((0 < length (now results)) × (length (now results) ≤ 256)) ⌝ }
+    ensures { λ r. ⌜ wordsOf r ≡ trueSqNorm «frac_bits» (now (gradient .entry)) ⌝ }
     ensures { λ _. ⌜ now (results .exit) ≡ testsOf p64 per (length (now (results .entry))) (drawn (length (now (results .entry)) * per) stream) (elements p64 «frac_bits» (now (gradient .entry))) ⌝ }
 {
-    let mut state = stream;
-    let mut t = 0;
+    let first = block_len(per, results.len());
+    let taken = take_block(
+        gradient,
+        scale,
+        frac_bits,
+        per,
+        stream,
+        &mut results[0..first],
+    );
+    let mut state = taken.next;
+    let mut t = first;
     while t < results.len() {
-        let end = groups::at_most(t + tiles::TESTS, results.len());
-        state = tiles::run_block(gradient, scale, frac_bits, per, state, &mut results[t..end]);
+        let end = t + block_len(per, results.len() - t);
+        let more = take_block(gradient, scale, frac_bits, per, state, &mut results[t..end]);
+        state = more.next;
         t = end;
     }
+    taken.norm
 }
 
 // The tests on a gradient's elements, with the bytes of a seed, and its squared norm without reduction.
@@ -158,33 +204,11 @@ pub fn norm_from_seed(
     ensures { λ _. ⌜ now (results .exit) ≡ testsOf p64 per (length (now (results .entry))) (wrStream (length (now (results .entry)) * per) (now (seed .entry))) (elements p64 «frac_bits» (now (gradient .entry))) ⌝ }
 {
     let stream = stream_of(seed);
-    if results.len() * per <= 1024 {
+    let count = results.len() * per;
+    if count <= 1024 {
         let mut buffer = [0u8; 1024];
-        return norm_and_blocks(
-            gradient,
-            scale,
-            frac_bits,
-            per,
-            stream,
-            &mut buffer,
-            results,
-        );
+        draw(stream, count, &mut buffer);
+        return gradient::norm_and_tests(gradient, scale, frac_bits, per, &buffer, results);
     }
-    // Where the buffer has room for few of the tests, the coordinates would be converted again for every few. Here the
-    // squared norm comes last, from a pass with no tests.
-    let fit = 8192 / per;
-    if fit < groups::at_most(results.len(), MANY) {
-        run_long_tests(gradient, scale, frac_bits, per, stream, results);
-        return gradient::norm_and_tests(gradient, scale, frac_bits, per, seed, &mut results[0..0]);
-    }
-    let mut buffer = [0u8; 8192];
-    norm_and_blocks(
-        gradient,
-        scale,
-        frac_bits,
-        per,
-        stream,
-        &mut buffer,
-        results,
-    )
+    take_blocks(gradient, scale, frac_bits, per, stream, results)
 }

@@ -2,90 +2,111 @@
 use mathlib.Core.Path.{_≡_, refl, subst, _∙_}
 use Prim.Native.Nat.{ℕ, _+_, _-_, _*_, _≤_, _<_}
 use native.Mathlib.Omega.{arith}
-use borrow.Author.Needs.{needs}
-use lib.ListN.{length, take, drop, length-set}
+use lib.ListN.{length, take, drop}
 use borrow.Rule.Slice.PartMut.{same-len-mid}
 use Rattle.groups.proofs.Swapped.{part-long}
-use Rattle.tiles.proofs.States.{Tiled, tiled-none, tiled-next, tiled-end, next-ready, inside, few, as-many}
+use Rattle.tiles.proofs.States.{Tiled, tiled-none, tiled-next, next-ready, inside, few, as-many}
 use Rattle.tiles.proofs.draw_tile.Statement.{statement}
 use Rattle.tiles.proofs.draw_tile.Tie as tie
 
 abbrev Inv-loop : tie.InvT-loop
-Inv-loop count n buffer₀ next₀ t₀ buffer next t = (t ≤ count) × (length buffer ≡ length buffer₀) × (length next ≡ 16) × (length next₀ ≡ 16) × Tiled n next₀ t next buffer
+Inv-loop count n states₀ buffer₀ t₀ states buffer t = (t ≤ count) × (length states ≡ length states₀) × (length buffer ≡ length buffer₀) × Tiled n states₀ t states buffer
 
 abbrev μ-loop : tie.MeasureT-loop
-μ-loop count n buffer₀ next₀ t₀ buffer next t = count - t
+μ-loop count n states₀ buffer₀ t₀ states buffer t = count - t
+
+-- the bytes of test t are in the buffer, and its state in the row
+module _ (c : tie.In-loop Inv-loop μ-loop) where
+  piece-in : c .before .loop .t * c .before .before .before .before .args .n + c .before .before .before .before .args .n ≤ length (c .before .loop .buffer)
+  piece-in = omega (arith, inside (c .before .loop .t) (c .before .before .before .before .args .count) (c .before .before .before .before .args .n) (length (c .before .before .before .before .args .buffer .now)) (c .loop-test .taken) (c .before .before .before .before .pre .0 .1 .1), c .before .loop .inv .2)
+
+  state-in : c .before .loop .t * 26 + 26 ≤ length (c .before .loop .states)
+  state-in = omega (arith, inside (c .before .loop .t) (c .before .before .before .before .args .count) 26 (length (c .before .before .before .before .args .states .now)) (c .loop-test .taken) (c .before .before .before .before .pre .1 .0), c .before .loop .inv .1)
+
+  small : c .before .loop .t * c .before .before .before .before .args .n ≤ 8000
+  small = few (c .before .loop .t) (c .before .before .before .before .args .count) (c .before .before .before .before .args .n) (c .loop-test .taken) (c .before .before .before .before .pre .0 .0) (c .before .before .before .before .pre .0 .1 .0)
 
 loop-holds : tie.Need-loop-holds Inv-loop μ-loop
-loop-holds c = (omega arith, refl, search needs, search needs, tiled-none (c .before .args .n) (c .before .args .states) (c .before .args .buffer .now))
+loop-holds c = (omega arith, refl, refl, tiled-none (c .before .before .args .n) (c .before .before .args .states .now) (c .before .before .args .buffer .now))
 
 mul-from : tie.Need-mul-from Inv-loop μ-loop
-mul-from c =
-    let s = c .before .before .before in
-    record { fits = omega (arith, few (c .before .loop .t) (s .args .count) (s .args .n) (c .loop-test .taken) (s .pre .0 .0) (s .pre .0 .1 .0)) }
+mul-from c = record { fits = omega (arith, small c) }
 
 add-to : tie.Need-add-to Inv-loop μ-loop
-add-to c =
-    let s = c .before .before .before in
-    record { fits = omega (arith, few (c .before .loop .t) (s .args .count) (s .args .n) (c .loop-test .taken) (s .pre .0 .0) (s .pre .0 .1 .0), s .pre .0 .1 .0) }
+add-to c = record { fits = omega (arith, small c, c .before .before .before .before .pre .0 .1 .0) }
 
-mul-state : tie.Need-mul-state Inv-loop μ-loop
-mul-state c = search needs
+mul-start : tie.Need-mul-start Inv-loop μ-loop
+mul-start c = record { fits = omega (arith, c .loop-test .taken, c .before .before .before .before .pre .0 .0) }
 
-array-copy-out-state : tie.Need-array-copy-out-state Inv-loop μ-loop
-array-copy-out-state c = search needs
+add-end : tie.Need-add-end Inv-loop μ-loop
+add-end c = record { fits = omega (arith, c .loop-test .taken, c .before .before .before .before .pre .0 .0) }
 
-sub-fill : tie.Need-sub-fill Inv-loop μ-loop
-sub-fill c = omega arith
+mul-draw-piece : tie.Need-mul-draw-piece Inv-loop μ-loop
+mul-draw-piece c = record { fits = omega (arith, c .loop-test .taken, c .before .before .before .before .pre .0 .0) }
 
-part-fill-start : tie.Need-part-fill-start Inv-loop μ-loop
-part-fill-start c = omega arith
+sub-draw-piece : tie.Need-sub-draw-piece Inv-loop μ-loop
+sub-draw-piece c = omega arith
 
-part-fill-end : tie.Need-part-fill-end Inv-loop μ-loop
-part-fill-end c =
-    let s = c .before .before .before .before in
-    let l = c .before .before .loop in
-    omega (arith, inside (l .t) (s .args .count) (s .args .n) (length (s .args .buffer .now)) (c .before .loop-test .taken) (s .pre .0 .1 .1), l .inv .1)
+part-draw-piece-start : tie.Need-part-draw-piece-start Inv-loop μ-loop
+part-draw-piece-start c = omega arith
 
-fill-requires : tie.Need-fill-requires Inv-loop μ-loop
-fill-requires c κs =
-    let s = c .before .before .before .before .before in
+part-draw-piece-end : tie.Need-part-draw-piece-end Inv-loop μ-loop
+part-draw-piece-end c = state-in c
+
+sub-draw-piece-2 : tie.Need-sub-draw-piece-2 Inv-loop μ-loop
+sub-draw-piece-2 c = omega arith
+
+part-draw-piece-start-2 : tie.Need-part-draw-piece-start-2 Inv-loop μ-loop
+part-draw-piece-start-2 c = omega arith
+
+part-draw-piece-end-2 : tie.Need-part-draw-piece-end-2 Inv-loop μ-loop
+part-draw-piece-end-2 c = piece-in (c .before)
+
+draw-piece-requires : tie.Need-draw-piece-requires Inv-loop μ-loop
+draw-piece-requires c κs =
+    let s = c .before .before .before .before .before .before in
+    let i = c .before .before in
     let l = c .before .before .before .loop in
-    next-ready (s .args .n) (s .args .states) _ (l .t) (l .next) (l .buffer) (omega (arith, l .inv .3, s .pre .0 .0, c .before .before .loop-test .taken)) (l .inv .4) (s .args .count) (c .before .before .loop-test .taken) (s .pre .1)
-
-mul-next : tie.Need-mul-next Inv-loop μ-loop
-mul-next c = search needs
-
-array-set-from-next : tie.Need-array-set-from-next Inv-loop μ-loop
-array-set-from-next c = search needs
+    let at = l .t * 26 in
+    (part-long at (at + 26) (l .states) (omega arith) (state-in i) ∙ as-many at 26, next-ready (s .args .n) (s .args .states .now) (l .t) (l .states) (l .buffer) (l .inv .3) (at + 26 - at) (s .args .count) (as-many at 26) (i .loop-test .taken) (s .pre .1 .1))
 
 add-t : tie.Need-add-t Inv-loop μ-loop
-add-t c = search needs
+add-t c = record { fits = omega (arith, c .before .before .before .before .before .before .before .loop-test .taken, c .before .before .before .before .before .before .before .before .before .before .before .pre .0 .0) }
 
 loop-less : tie.Need-loop-less Inv-loop μ-loop
-loop-less c = search needs
+loop-less c = omega (arith, c .before .before .before .before .before .before .before .loop-test .taken)
 
 loop-again : tie.Need-loop-again Inv-loop μ-loop
 loop-again c =
-    let s = c .before .before .before .before .before .before .before .before in
-    let l = c .before .before .before .before .before .before .loop in
-    let f = c .before .before .fill in
-    let at = l .t * s .args .n in
-    let more : l .t < s .args .count = c .before .before .before .before .before .loop-test .taken in
-    let room : at + s .args .n ≤ length (l .buffer) = omega (arith, inside (l .t) (s .args .count) (s .args .n) (length (s .args .buffer .now)) more (s .pre .0 .1 .1), l .inv .1) in
-    let long : length (take (at + s .args .n - at) (drop at (l .buffer))) ≡ s .args .n = part-long at (at + s .args .n) (l .buffer) (omega arith) room ∙ as-many at (s .args .n) in
-    (omega (arith, more), same-len-mid at (at + s .args .n - at) (l .buffer) (f .last .1 .0) (f .kept .1 .0) ∙ l .inv .1, length-set (l .next) (l .t) (f .result) ∙ l .inv .2, l .inv .3, tiled-next (s .args .n) (s .args .states) _ (l .t) (l .next) (l .buffer) (omega (arith, l .inv .3, s .pre .0 .0, more)) (l .inv .4) _ (f .last .1 .0) _ (f .result) long room (f .ensures .0) (f .ensures .1 .0))
+    let s = c .before .before .before .before .before .before .before .before .before .before .before in
+    let i = c .before .before .before .before .before .before .before in
+    let l = c .before .before .before .before .before .before .before .before .loop in
+    let d = c .before .before .before .before .draw-piece in
+    let n = s .args .n in
+    let at = l .t * 26 in
+    let from = l .t * n in
+    let words : length (take (at + 26 - at) (drop at (l .states))) ≡ 26 = part-long at (at + 26) (l .states) (omega arith) (state-in i) ∙ as-many at 26 in
+    let bytes : length (take (from + n - from) (drop from (l .buffer))) ≡ n = part-long from (from + n) (l .buffer) (omega arith) (piece-in i) ∙ as-many from n in
+    let room : at ≤ length (l .states) = omega (arith, state-in i) in (
+      omega (arith, i .loop-test .taken),
+      same-len-mid at (at + 26 - at) (l .states) (d .last .0) (d .kept .0) ∙ l .inv .1,
+      same-len-mid from (from + n - from) (l .buffer) (d .last .1 .0) (d .kept .1 .0) ∙ l .inv .2,
+      tiled-next n (s .args .states .now) (l .t) (l .states) (l .buffer) (l .inv .3) (at + 26 - at) _ (d .last .0) (d .last .1 .0) _ (as-many at 26) bytes room (d .kept .0 ∙ words) (piece-in i) (d .ensures .0) (d .ensures .1),
+    )
 
 same-length : tie.Need-same-length Inv-loop μ-loop
 same-length c = c .before .loop .inv .1
 
+same-length-2 : tie.Need-same-length-2 Inv-loop μ-loop
+same-length-2 c = c .before .loop .inv .2
+
 returns : tie.Need-returns Inv-loop μ-loop
 returns c =
-    let s = c .before .before .before in
+    let s = c .before .before .before .before in
     let l = c .before .loop in
     let end : l .t ≡ s .args .count = omega (arith, c .loop-test .left, l .inv .0) in
-    let w : Tiled (s .args .n) (s .args .states) (s .args .count) (l .next) (l .buffer) = subst (λ (t : ℕ). Tiled (s .args .n) (s .args .states) t (l .next) (l .buffer)) end (l .inv .4) in
-    (w .1, tiled-end (s .args .n) (s .args .states) (s .args .count) (l .next) (l .buffer) (omega (arith, l .inv .3, s .pre .0 .0)) w)
+    let w : Tiled (s .args .n) (s .args .states .now) (s .args .count) (l .states) (l .buffer) = subst (λ (t : ℕ). Tiled (s .args .n) (s .args .states .now) t (l .states) (l .buffer)) end (l .inv .3) in
+    (w .1 .1, w .0)
 
 pub draw-tile-spec : {M : Type 1} → statement M
 draw-tile-spec =
@@ -96,16 +117,19 @@ draw-tile-spec =
     loop-holds
     mul-from
     add-to
-    mul-state
-    array-copy-out-state
-    sub-fill
-    part-fill-start
-    part-fill-end
-    fill-requires
-    mul-next
-    array-set-from-next
+    mul-start
+    add-end
+    mul-draw-piece
+    sub-draw-piece
+    part-draw-piece-start
+    part-draw-piece-end
+    sub-draw-piece-2
+    part-draw-piece-start-2
+    part-draw-piece-end-2
+    draw-piece-requires
     add-t
     loop-less
     loop-again
     same-length
+    same-length-2
     returns)
