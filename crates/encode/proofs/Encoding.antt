@@ -4,8 +4,7 @@ use mathlib.Core.Bool.{Bool, true, false, cond}
 use mathlib.Core.List.{List, [], _∷_, _++_}
 use Prim.Native.Nat.{ℕ, suc, _+_, _*_, _/_, _%_, _≤_, _<_}
 use native.Mathlib.Omega.{arith}
-use lib.ListN.{length, take, drop, replicate, length-replicate}
-use lib.Seq.{length-take-le}
+use lib.ListN.{length, take, drop}
 use lib.Dec.{eqb, ltb}
 use lib.Ieee.{Float}
 use borrow.Author.Tests.{eq-eqb, ne-eqb, eqb-true}
@@ -205,7 +204,3 @@ module _ (F : Field) (i : PineParam) (g : List Float) (s m r : List ℕ) where
       pub late-is : lateOf F i g found m r ≡ encodeOf F i g s m r
       unfolding encodeOf lateOf measurementOf
       late-is = rw (whole-is, results-are)
-
--- a part of the row that is filled with 0 first
-pub part-long : (most n : ℕ) → n ≤ most → length (take n (replicate {A = ℕ} most 0)) ≡ n
-part-long most n h = length-take-le n (replicate {A = ℕ} most 0) (rw (length-replicate {A = ℕ} most 0) h)

@@ -9,14 +9,15 @@ use Rattle.field64.specs.Field.{p64}
 use Rattle.flp.specs.Tests.{testsOf}
 use Rattle.flp.specs.Encode.{elements}
 use Rattle.wr_joint_rand.proofs.Blocks.{some-bytes}
-use Rattle.wr_joint_rand.proofs.Seeds.{lent, from-seed, seed-long}
+use Rattle.wr_joint_rand.proofs.Seeds.{is-seed, lent, from-seed}
 use Rattle.encode.proofs.norm_and_tests.Statement.{statement}
 use Rattle.encode.proofs.norm_and_tests.Tie as tie
 
 norm-from-seed-requires : tie.Need-norm-from-seed-requires
 norm-from-seed-requires c κs =
     let s = c .before .before .before .before .before in
-    (s .pre .0, ((seed-long (s .args .seeded) (length (s .args .results .now) * s .args .per) (s .args .row .now) (c .before .if1 .taken) (some-bytes (length (s .args .results .now)) (s .args .per) (s .pre .1 .1 .0 .0) (s .pre .1 .1 .1 .0 .0)) (s .pre .1 .0), s .pre .1 .1 .0), s .pre .1 .1 .1))
+    let n = length (s .args .results .now) * s .args .per in
+    (s .pre .0, ((is-seed n (s .args .row .now) (some-bytes (length (s .args .results .now)) (s .args .per) (s .pre .1 .1 .0 .0) (s .pre .1 .1 .1 .0 .0)) (rw (from-seed (s .args .seeded) n (s .args .row .now) (c .before .if1 .taken)) at (s .pre .1 .0)), s .pre .1 .1 .0), s .pre .1 .1 .1))
 
 same-length : tie.Need-same-length
 same-length c = search needs
