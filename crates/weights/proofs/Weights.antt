@@ -163,7 +163,7 @@ byte-written t b start row f h =
     let u = f (b / 16) (omega arith) in
     λ i. set (set (set (set row start ((l .0 ∙ ap weight (pair-0 b)) i)) (start + 1) ((l .1 ∙ ap weight (pair-1 b)) i)) (start + 2) (u .0 i)) (start + 3) ((u .1 ∙ ap weight (pair-3 b h)) i)
 
-pub weights-at : (bytes : List ℕ) (k : ℕ) → k < length bytes → (getD (weightsOf bytes) (4 * k) 0 ≡ weight (getD bytes k 0 % 4)) × (getD (weightsOf bytes) (4 * k + 1) 0 ≡ weight (getD bytes k 0 / 4 % 4)) × (getD (weightsOf bytes) (4 * k + 2) 0 ≡ weight (getD bytes k 0 / 16 % 4)) × (getD (weightsOf bytes) (4 * k + 3) 0 ≡ weight (getD bytes k 0 / 64 % 4))
+weights-at : (bytes : List ℕ) (k : ℕ) → k < length bytes → (getD (weightsOf bytes) (4 * k) 0 ≡ weight (getD bytes k 0 % 4)) × (getD (weightsOf bytes) (4 * k + 1) 0 ≡ weight (getD bytes k 0 / 4 % 4)) × (getD (weightsOf bytes) (4 * k + 2) 0 ≡ weight (getD bytes k 0 / 16 % 4)) × (getD (weightsOf bytes) (4 * k + 3) 0 ≡ weight (getD bytes k 0 / 64 % 4))
 unfolding pairs
 weights-at [] k h = absurd (omega arith)
 weights-at (b ∷ bs) zero h = (refl, refl, refl, refl)

@@ -74,7 +74,7 @@ const PAIRS: [u64; 48] = [
 ];
 
 // The sum of the elements.
-pub fn plain_sum(xs: &[u64]) -> u64
+fn plain_sum(xs: &[u64]) -> u64
     requires { ⌜ length (now xs) ≤ 256 ⌝ }
     ensures { λ r. ⌜ r ≡ total p64 (now (xs .entry)) ⌝ }
 {

@@ -2,16 +2,19 @@
 use pine::PineParam;
 use rules::Answer;
 ghost use mathlib.Core.Path.{_≡_};
-ghost use Prim.Native.Nat.{_≤_};
+ghost use Prim.Native.Nat.{_*_, _≤_, _<_};
 ghost use lib.ListN.{length};
 ghost use Rattle.rules.specs.Rules.{first, inOrder};
 ghost use Rattle.field64.specs.Field.{p64};
 ghost use Rattle.pine.specs.Param.{Field64};
 ghost use Rattle.pine.specs.Record.{streamLen};
-ghost use Rattle.rows.specs.Rows.{rowRule, elementsRule};
+ghost use Rattle.rows.specs.Rows.{rowRule, elementsRule, Below};
 ghost use Rattle.rows.specs.Outcome.{outcome};
-ghost use Rattle.flp.specs.Tests.{runTestsRules, runTestsOf};
+ghost use Rattle.flp.specs.Tests.{testsOf, runTestsRules, runTestsOf};
 ghost use Rattle.wr_joint_rand.specs.WrJointRand.{wrStream};
+
+// So many bytes of all tests are few.
+const FEW_BYTES: usize = 12;
 
 // The bytes of the stream. The record has them too, but deriving it takes as long as a small test.
 fn stream_len(param: PineParam) -> u64
@@ -55,6 +58,19 @@ fn check_seeded(param: PineParam, gradient: &[u64], seed: &[u8], results: &[u64]
     check_rows(param, gradient, row_2, results)
 }
 
+// The tests with a lent stream. Few bytes of all tests go straight: for these it counts what a call takes beside them.
+fn run_lent(gradient: &[u64], per: usize, stream: &[u8], results: &mut [u64])
+    requires { ⌜ ((0 < length (now results)) × (length (now results) * per ≤ length (now stream))) × ((length (now gradient) ≤ 4 * per) × (per < 65536)) ⌝ }
+    requires { ⌜ Below p64 (now gradient) ⌝ }
+    ensures { λ _. ⌜ now (results .exit) ≡ testsOf p64 per (length (now (results .entry))) (now (stream .entry)) (now (gradient .entry)) ⌝ }
+{
+    if stream.len() <= FEW_BYTES {
+        byte_columns::run_block(gradient, per, stream, results);
+        return;
+    }
+    columns::run_block(gradient, per, stream, results);
+}
+
 // Runs the wraparound tests on the gradient's elements, with the lent stream.
 pub fn run_wr_tests(
     param: PineParam,
@@ -68,7 +84,7 @@ pub fn run_wr_tests(
     if answer.number != 0 {
         return answer;
     }
-    columns::run_block(gradient, (gradient.len() + 3) / 4, stream, results);
+    run_lent(gradient, (gradient.len() + 3) / 4, stream, results);
     answer
 }
 

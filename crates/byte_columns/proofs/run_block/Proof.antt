@@ -10,20 +10,17 @@ use Rattle.byte_columns.proofs.run_block.Statement.{statement}
 use Rattle.byte_columns.proofs.run_block.Tie as tie
 
 abbrev Inv-loop : tie.InvT-loop
-Inv-loop gradient per stream results₀ plain t₀ results t = Walking (all-results per gradient stream results₀) results₀ results t
+Inv-loop gradient per stream results₀ t₀ results t = Walking (all-results per gradient stream results₀) results₀ results t
 
 abbrev μ-loop : tie.MeasureT-loop
-μ-loop gradient per stream results₀ plain t₀ results t = length results₀ - t
+μ-loop gradient per stream results₀ t₀ results t = length results₀ - t
 
 -- the bytes of a test are in the stream
-fits : (c : tie.In-loop Inv-loop μ-loop) → c .before .loop .t * c .before .before .before .before .before .before .args .per + c .before .before .before .before .before .before .args .per ≤ length (c .before .before .before .before .before .before .args .stream .now)
+fits : (c : tie.In-loop Inv-loop μ-loop) → c .before .loop .t * c .before .before .before .before .before .args .per + c .before .before .before .before .before .args .per ≤ length (c .before .before .before .before .before .args .stream .now)
 fits c =
     let l = c .before in
-    let s = l .before .before .before .before .before in
+    let s = l .before .before .before .before in
     bytes-inside (s .args .per) (s .args .gradient .now) (s .args .stream .now) (s .args .results .now) (l .loop .results) (l .loop .t) (l .loop .inv) (c .loop-test .taken) (s .pre .0 .0)
-
-plain-sum-requires : tie.Need-plain-sum-requires Inv-loop μ-loop
-plain-sum-requires c κs = omega (arith, c .before .before .before .pre .0 .1)
 
 loop-holds : tie.Need-loop-holds Inv-loop μ-loop
 loop-holds c = (search needs, refl, refl)
@@ -46,9 +43,9 @@ part-test-of-end c = omega (arith, fits c)
 test-of-requires : tie.Need-test-of-requires Inv-loop μ-loop
 test-of-requires c κs =
     let l = c .before .before in
-    let s = l .before .before .before .before .before in
+    let s = l .before .before .before .before in
     let e = part-long (s .args .per) (s .args .gradient .now) (s .args .stream .now) (s .args .results .now) (l .loop .results) (l .loop .t) (l .loop .inv) (c .before .loop-test .taken) (s .pre .0 .0) in
-    ((s .pre .1, l .before .plain-sum .ensures), (omega (arith, s .pre .0 .1), rw e (s .pre .0 .1 .0)))
+    (s .pre .1, (omega (arith, s .pre .0 .1), rw e (s .pre .0 .1 .0)))
 
 mul-results : tie.Need-mul-results Inv-loop μ-loop
 mul-results c = omega arith
@@ -65,7 +62,7 @@ loop-less c = omega arith
 loop-again : tie.Need-loop-again Inv-loop μ-loop
 loop-again c =
     let l = c .before .before .before in
-    let s = l .before .before .before .before .before in
+    let s = l .before .before .before .before in
     results-next (s .args .per) (s .args .gradient .now) (s .args .stream .now) (s .args .results .now) (l .loop .results) (l .loop .t) (l .loop .inv) (c .before .before .loop-test .taken) (s .pre .0 .0) (c .test-of .result) (c .test-of .ensures)
 
 same-length : tie.Need-same-length Inv-loop μ-loop
@@ -74,7 +71,7 @@ same-length c = c .before .loop .inv .1
 returns : tie.Need-returns Inv-loop μ-loop
 returns c =
     let l = c .before in
-    let s = l .before .before .before .before .before in
+    let s = l .before .before .before .before in
     results-end (s .args .per) (s .args .gradient .now) (s .args .stream .now) (s .args .results .now) (l .loop .results) (l .loop .t) (l .loop .inv) (omega arith)
 
 pub run-block-spec : {M : Type 1} → statement M
@@ -83,7 +80,6 @@ run-block-spec =
     (tie.spec
     Inv-loop
     μ-loop
-    plain-sum-requires
     loop-holds
     mul-start
     add-end

@@ -19,17 +19,17 @@ returns c =
     let s = c .before .before .before .before .before .before .before in
     refused Field64 (s .args .param) (s .args .gradient .now) (s .args .stream .now) (s .args .results .now) _ (c .before .before .check-lent .ensures) (c .if1 .taken)
 
-add-run-block : tie.Need-add-run-block
-add-run-block c = search needs
+add-run-lent : tie.Need-add-run-lent
+add-run-lent c = search needs
 
-run-block-requires : tie.Need-run-block-requires
-run-block-requires c κs =
+run-lent-requires : tie.Need-run-lent-requires
+run-lent-requires c κs =
     let s = c .before .before .before .before .before .before .before .before in
     let v = c .before .before .before .check-lent .ensures in
     let z = c .before .if1 .left in
     let m = met Field64 (s .args .param) (s .args .gradient .now) (s .args .stream .now) (s .args .results .now) _ v z in
     let w = room Field64 (s .args .param) (s .args .gradient .now) (s .args .stream .now) (s .args .results .now) _ v z in
-    ((rw (w .whole) (le-of-eq (sym (m .row-2))), (w .per .1, omega (arith, w .per .0 .1))), m .below)
+    (((w .tests .0, rw (w .whole) (le-of-eq (sym (m .row-2)))), (w .per .1, omega (arith, w .per .0 .1))), m .below)
 
 same-length-2 : tie.Need-same-length-2
 same-length-2 c = search needs
@@ -39,7 +39,7 @@ returns-2 c =
     let s = c .before .before .before .before .before .before .before .before .before .before .before in
     let v = c .before .before .before .before .before .before .check-lent .ensures in
     let z = c .before .before .before .before .if1 .left in
-    done Field64 (s .args .param) (s .args .gradient .now) (s .args .stream .now) (s .args .results .now) _ v z _ (c .before .before .run-block .ensures)
+    done Field64 (s .args .param) (s .args .gradient .now) (s .args .stream .now) (s .args .results .now) _ v z _ (c .before .before .run-lent .ensures)
 
 pub run-wr-tests-spec : {M : Type 1} → statement M
 run-wr-tests-spec =
@@ -48,7 +48,7 @@ run-wr-tests-spec =
     check-lent-requires
     same-length
     returns
-    add-run-block
-    run-block-requires
+    add-run-lent
+    run-lent-requires
     same-length-2
     returns-2)
