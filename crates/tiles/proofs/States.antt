@@ -180,12 +180,12 @@ pub inside : (t T n l : ℕ) → t < T → T * n ≤ l → t * n + n ≤ l
 inside t T n l h m = omega (arith, suc-mul t n, mul-le-mul-right n h)
 
 -- they are few
-pub few : (t T n : ℕ) → t < T → T ≤ 50 → n ≤ 160 → t * n ≤ 8000
+pub few : (t T n : ℕ) → t < T → T ≤ 50 → n ≤ 128 → t * n ≤ 6400
 few t T n h l m =
     let k : t ≤ 50 = omega arith in
     mul-le-mul k m
 
-pub roomy : (T T′ n a b : ℕ) → T′ ≡ T → T ≤ 50 → n ≤ 160 → a ≡ b → 8000 ≤ b → T′ * n ≤ a
+pub roomy : (T T′ n a b : ℕ) → T′ ≡ T → T ≤ 50 → n ≤ 128 → a ≡ b → 6400 ≤ b → T′ * n ≤ a
 roomy T T′ n a b e h l f m = rw (e, f) (le-trans (mul-le-mul h l) m)
 
 pub as-many : (from n : ℕ) → from + n - from ≡ n

@@ -34,6 +34,6 @@ abbrev pub Ready : List Sponge → Type 0
 Ready [] = Unit {0}
 Ready (s ∷ ss) = (s .at < 168) × Ready ss
 
--- rows that are long enough for a block of T tests: 26 words of state and 160 bytes of tile for each of 50
+-- rows that are long enough for a block of T tests: 26 words of state and 128 bytes of tile for each of 50
 abbrev pub BlockRows : (T : ℕ) (states buffer : List ℕ) → Type 0
-BlockRows T states buffer = (T ≤ 50) × ((1300 ≤ length states) × (8000 ≤ length buffer))
+BlockRows T states buffer = (T ≤ 50) × ((1300 ≤ length states) × (6400 ≤ length buffer))

@@ -1,8 +1,8 @@
-// Internal: the wraparound tests of a long gradient, with the bytes of a stream that no row holds: not even those of one
-// test. A block of tests goes over the coordinates together, tile by tile, so that each coordinate is converted once for
-// the whole block. The stream has the bytes of one test after those of the other: each test of the block draws from a
-// state of its own, and the first thing is to run through the stream for these. The states are kept in one row of words,
-// which the caller lends. A function here asks its caller for what it does not test itself.
+// Internal: the wraparound tests of a long gradient, with the bytes of a stream that no row holds: not even those of
+// one test. A block of tests goes over the coordinates together, tile by tile, so that each coordinate is converted
+// once for the whole block. The stream has the bytes of one test after those of the other: each test of the block draws
+// from a state of its own, and the first thing is to run through the stream for these. The states are kept in one row
+// of words, which the caller lends. A function here asks its caller for what it does not test itself.
 use sums::Sum;
 use turboshake::Sponge;
 ghost use mathlib.Core.Path.{_≡_};
@@ -25,7 +25,7 @@ pub const TESTS: usize = 50;
 const WORDS: usize = 26;
 
 // So many bytes of each test, at the most, are a tile.
-const WIDTH: usize = 160;
+const WIDTH: usize = 128;
 
 // What a block gives: the stream after its bytes, and the squared norm without reduction.
 pub struct Taken {
@@ -62,8 +62,8 @@ fn save(state: Sponge, words: &mut [u64])
     words[25] = state.at as u64;
 }
 
-// Saves the states from which the tests of a block draw. The bytes of the last test are not run through: its state comes
-// to their end when they are drawn.
+// Saves the states from which the tests of a block draw. The bytes of the last test are not run through: its state
+// comes to their end when they are drawn.
 fn find_starts(stream: Sponge, per: usize, count: usize, states: &mut [u64])
     requires { ⌜ (stream .at < 168) × (per ≤ 16384) ⌝ }
     requires { ⌜ ((0 < count) × (count ≤ 50)) × (count * 26 ≤ length (now states)) ⌝ }
@@ -97,7 +97,7 @@ fn draw_piece(words: &mut [u64], piece: &mut [u8])
 
 // Draws the next n bytes of each test, side by side.
 fn draw_tile(count: usize, n: usize, states: &mut [u64], buffer: &mut [u8])
-    requires { ⌜ (count ≤ 50) × ((n ≤ 160) × (count * n ≤ length (now buffer))) ⌝ }
+    requires { ⌜ (count ≤ 50) × ((n ≤ 128) × (count * n ≤ length (now buffer))) ⌝ }
     requires { ⌜ (count * 26 ≤ length (now states)) × Ready (statesOf count (now states)) ⌝ }
     ensures { λ _. ⌜ take (count * n) (now (buffer .exit)) ≡ tileOf n (statesOf count (now (states .entry))) ⌝ }
     ensures { λ _. ⌜ statesOf count (now (states .exit)) ≡ allAfter n (statesOf count (now (states .entry))) ⌝ }
@@ -113,7 +113,7 @@ fn draw_tile(count: usize, n: usize, states: &mut [u64], buffer: &mut [u8])
     }
 }
 
-// The tests tile by tile, with rows that may be spoilt, and the squared norm. Each state goes on to the end of its test.
+// The tests tile by tile, with rows that may be spoilt, and the squared norm. Each state goes on to its test's end.
 fn run_tiles(
     gradient: &[f64],
     scale: f64,
@@ -159,8 +159,8 @@ fn run_tiles(
     norm
 }
 
-// Runs a block of tests on the gradient's elements, each with the next bytes of a stream. The rows are spoilt, and nothing
-// depends on what they held.
+// Runs a block of tests on the gradient's elements, each with the next bytes of a stream. The rows are spoilt, and
+// nothing depends on what they held.
 pub fn run_block(
     gradient: &[f64],
     scale: f64,

@@ -101,8 +101,8 @@ fn block_len(per: usize, tests: usize) -> usize
     groups::at_most(tests, fit)
 }
 
-// A block of tests on a gradient's elements, with the next bytes of a stream. It is called from two places, so that LLVM
-// does not add its rows to its caller's stack.
+// A block of tests on a gradient's elements, with the next bytes of a stream. It is called from two places, so that
+// LLVM does not lay it out within its caller, with its rows on the stack of every path there.
 fn take_block(
     gradient: &[f64],
     scale: f64,
@@ -152,8 +152,8 @@ fn take_block(
     )
 }
 
-// The tests on a gradient's elements block by block, with the next bytes of a stream. Each block gives the squared norm:
-// that of the first is the answer.
+// The tests on a gradient's elements block by block, with the next bytes of a stream. Each block gives the squared
+// norm: that of the first is the answer.
 fn take_blocks(
     gradient: &[f64],
     scale: f64,

@@ -23,7 +23,7 @@ module _ (c : tie.In-loop Inv-loop μ-loop) where
   state-in : c .before .loop .t * 26 + 26 ≤ length (c .before .loop .states)
   state-in = omega (arith, inside (c .before .loop .t) (c .before .before .before .before .args .count) 26 (length (c .before .before .before .before .args .states .now)) (c .loop-test .taken) (c .before .before .before .before .pre .1 .0), c .before .loop .inv .1)
 
-  small : c .before .loop .t * c .before .before .before .before .args .n ≤ 8000
+  small : c .before .loop .t * c .before .before .before .before .args .n ≤ 6400
   small = few (c .before .loop .t) (c .before .before .before .before .args .count) (c .before .before .before .before .args .n) (c .loop-test .taken) (c .before .before .before .before .pre .0 .0) (c .before .before .before .before .pre .0 .1 .0)
 
 loop-holds : tie.Need-loop-holds Inv-loop μ-loop

@@ -33,7 +33,7 @@ zero-row-requires c κs = search needs
 none-requires : tie.Need-none-requires Inv-loop μ-loop
 none-requires c κs = search needs
 
-fits : (g : tie.After-group-from Inv-loop μ-loop) → Fits (g .before .before .loop .j) 160 (g .before .before .before .before .before .before .before .before .before .before .before .before .before .before .args .per) (length (g .before .before .before .before .before .before .before .before .before .before .before .before .before .before .args .gradient .now)) (g .group-from .result)
+fits : (g : tie.After-group-from Inv-loop μ-loop) → Fits (g .before .before .loop .j) 128 (g .before .before .before .before .before .before .before .before .before .before .before .before .before .before .args .per) (length (g .before .before .before .before .before .before .before .before .before .before .before .before .before .before .args .gradient .now)) (g .group-from .result)
 fits g = group-fits _ _ _ _ _ (g .before .loop-test .taken) (lit< tt) (g .group-from .ensures)
 
 loop-holds : tie.Need-loop-holds Inv-loop μ-loop
@@ -113,7 +113,7 @@ loop-again c =
     let further : 4 * j ≤ 4 * r .end = omega (arith, h) in
     let on : j + n ≡ r .end = omega (arith, h) in
     let within : j + n ≤ per = omega (arith, h) in
-    let cut = group-cut j 160 per xs r (g .before .loop-test .taken) (g .group-from .ensures) in
+    let cut = group-cut j 128 per xs r (g .before .loop-test .taken) (g .group-from .ensures) in
     let part = elements-cut p64 f (4 * j) (4 * r .end) xs _ cut in
     let added = sides-added p64 per j n _ within (K * n) starts (l .results) _ (l .inv .5 ∙ sym (length-states K (s .args .states .now))) (d .ensures .0 ∙ ap (tileOf n) (l .inv .7)) in (
       fits g .inside,
