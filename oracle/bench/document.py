@@ -133,6 +133,11 @@ def of_calls(names, rows):
     return f"### {', '.join(names)}\n\nNanoseconds for each {mine[0].of}.\n\n" + table((*columns, *times), mine)
 
 
+def of_files(rows):
+    """The original has no such calls."""
+    return table((CALL, NOTE, OF, OURS, BY_HAND, TO_BY_HAND, TO_READING), rows)
+
+
 def of_memory(rows):
     reads, copies = ([r for r in rows if r.name == name] for name in ("read", "copy"))
     columns = (
@@ -188,8 +193,8 @@ def causes(way, behind):
 
 
 def document(rows, processor, picture):
-    kinds = {kind: [r for r in rows if r.kind == kind] for kind in ("call", "leaf", "memory")}
-    calls, leaves = kinds["call"], kinds["leaf"]
+    kinds = {kind: [r for r in rows if r.kind == kind] for kind in ("call", "file", "leaf", "memory")}
+    calls, files, leaves = kinds["call"], kinds["file"], kinds["leaf"]
     parts = [
         (HERE / "head.md").read_text().strip(),
         f"Processor: {processor}",
@@ -198,12 +203,14 @@ def document(rows, processor, picture):
         headlines(calls),
         "## Each call over all sizes",
         *(of_calls(names, calls) for names in TABLES),
+        "## The day's file",
+        of_files(files),
         "## Leaf functions, in loops over rows",
         table((NAME, LENGTH, *TIMES), leaves),
         "## Memory, in the same run",
         of_memory(kinds["memory"]),
         "## Slower than by hand",
-        slower(calls + leaves, "by hand", lambda r: r.by_hand, lambda r: r.to_by_hand),
+        slower(calls + files + leaves, "by hand", lambda r: r.by_hand, lambda r: r.to_by_hand),
         "## Slower than the original",
         slower(calls + leaves, "the original", lambda r: r.original, lambda r: r.to_original),
     ]

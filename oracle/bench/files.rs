@@ -1,5 +1,5 @@
-//! The calls on a day's file, beside plain copies of its bytes, and beside sorting for the exact size. The original has
-//! no such calls.
+//! The calls on a day's file, beside plain copies of its bytes; adding also beside a copy that tests rule 14 first; and
+//! the exact size beside sorting. The original has no such calls.
 
 use crate::{
     by_hand,
@@ -108,12 +108,13 @@ fn words(row: &[u8]) -> Vec<u64> {
     row.chunks(8).map(|x| x.iter().rev().fold(0, |n, b| n << 8 | u64::from(*b))).collect()
 }
 
-fn title(name: &str, bytes: usize) -> Title {
-    Title { note: format!("{ENTRIES} entries of d = {D}"), ..Title::new("file", name, bytes, "byte", bytes) }
+fn title(name: &str, by_hand: &str, entries: usize) -> Title {
+    let bytes = 6 + entries * ENTRY;
+    let note = format!("{entries} entries of d = {D}; by hand {by_hand}");
+    Title { note, ..Title::new("file", name, bytes, "byte", bytes) }
 }
 
 fn reading() -> Row {
-    let bytes = 6 + ENTRIES * ENTRY;
     let ready = |f: &File| (whole(f), vec![1u8; f.contents.len()], vec![1u64; f.bodies.len()]);
     type Rows = (Vec<u8>, Vec<u8>, Vec<u64>);
     let gave = |(_, contents, bodies): Rows, ()| [words(&contents), bodies].concat();
@@ -129,7 +130,7 @@ fn reading() -> Row {
         bytes_of_mut(bodies).copy_from_slice(b);
     };
     let ways = Ways { original: None, ours: way(ready, ours, gave), by_hand: Some(way(ready, by_hand, gave)) };
-    row(title("file_read", bytes), |random| file(random, ENTRIES, true), ways)
+    row(title("file_read", "copies", ENTRIES), |random| file(random, ENTRIES, true), ways)
 }
 
 fn writing() -> Row {
@@ -152,12 +153,16 @@ fn writing() -> Row {
         b.copy_from_slice(bytes_of(bodies));
     };
     let ways = Ways { original: None, ours: way(ready, ours, gave), by_hand: Some(way(ready, by_hand, gave)) };
-    row(title("file_write", bytes), |random| file(random, ENTRIES, true), ways)
+    row(title("file_write", "copies", ENTRIES), |random| file(random, ENTRIES, true), ways)
+}
+
+/// A key's bytes in the order in which they are compared.
+fn order(k: &[u8]) -> [u8; 8] {
+    [k[0], k[1], k[2], k[3], k[4], k[5], k[7], k[6]]
 }
 
 /// A copy of the file, and the share added to its body, where the place of the key is found by halving; no rule tested.
 fn add_by_hand(old: &[u8], key: [u8; 8], share: &[u64], second: &mut [u8]) -> usize {
-    let order = |k: &[u8]| [k[0], k[1], k[2], k[3], k[4], k[5], k[7], k[6]];
     let entries = u16::from_le_bytes([old[0], old[1]]) as usize;
     let (contents, bodies) = old[6..].split_at(12 * entries);
     let at = (0..entries).collect::<Vec<_>>().partition_point(|k| order(&contents[12 * k..]) < order(&key));
@@ -182,7 +187,20 @@ fn add_by_hand(old: &[u8], key: [u8; 8], share: &[u64], second: &mut [u8]) -> us
     6 + now * ENTRY
 }
 
-fn adding(name: &str, entries: usize, held: bool) -> Row {
+/// Rule 14: the dimension, the length, rising keys, and elements below p.
+fn is_file(file: &[u8]) -> bool {
+    let Some((head, rest)) = file.split_at_checked(6) else { return false };
+    let entries = usize::from(u16::from_le_bytes([head[0], head[1]]));
+    if head[2..] != (D as u32).to_le_bytes() || entries > ENTRIES || rest.len() != entries * ENTRY {
+        return false;
+    }
+    let (contents, bodies) = rest.split_at(12 * entries);
+    let rise = contents.chunks(12).zip(contents.chunks(12).skip(1)).all(|(a, b)| order(a) < order(b));
+    let below = |x: &[u8]| u64::from_le_bytes(x.try_into().unwrap()) < by_hand::P;
+    rise && bodies.chunks_exact(8).fold(true, |all, x| all & below(x))
+}
+
+fn adding(name: &str, entries: usize, held: bool, tests: bool) -> Row {
     let bytes = 6 + entries * ENTRY;
     type Rows = (Vec<u8>, [u8; 8], Vec<u64>, Vec<u8>);
     let ready = move |f: &File| (whole(f), f.key, f.share.clone(), vec![1u8; bytes + ENTRY]);
@@ -195,10 +213,13 @@ fn adding(name: &str, entries: usize, held: bool) -> Row {
         accepted(added.answer);
         added.len as usize
     };
-    let by_hand = |(old, key, share, second): &mut Rows| add_by_hand(old, *key, share, second);
+    let by_hand = move |(old, key, share, second): &mut Rows| {
+        assert!(!tests || is_file(old) && share.iter().all(|x| *x < by_hand::P));
+        add_by_hand(old, *key, share, second)
+    };
     let ways = Ways { original: None, ours: way(ready, ours, gave), by_hand: Some(way(ready, by_hand, gave)) };
-    let title = Title { note: format!("{entries} entries of d = {D}"), ..Title::new("file", name, bytes, "byte", bytes) };
-    row(title, move |random| file(random, entries, held), ways)
+    let does = if tests { "tests rule 14, copies and adds" } else { "copies and adds" };
+    row(title(name, does, entries), move |random| file(random, entries, held), ways)
 }
 
 const KEYS: usize = 1_000_000;
@@ -221,7 +242,7 @@ fn size() -> Row {
         (6 + all.len() * ENTRY) as u64
     };
     let ways = Ways { original: None, ours: way(ready, ours, gave), by_hand: Some(way(ready, by_hand, gave)) };
-    let title = Title { note: "a million keys, 1024 different; sorted".into(), ..Title::new("file", "file_size", KEYS, "key", 8 * KEYS) };
+    let title = Title { note: "a million keys, 1024 different; by hand sorts".into(), ..Title::new("file", "file_size", KEYS, "key", 8 * KEYS) };
     row(title, fresh, ways)
 }
 
@@ -229,8 +250,10 @@ pub fn table() -> Vec<Row> {
     vec![
         reading(),
         writing(),
-        adding("file_add to a held key", ENTRIES, true),
-        adding("file_add of a new key", ENTRIES - 1, false),
+        adding("file_add to a held key", ENTRIES, true, false),
+        adding("file_add to a held key", ENTRIES, true, true),
+        adding("file_add of a new key", ENTRIES - 1, false, false),
+        adding("file_add of a new key", ENTRIES - 1, false, true),
         size(),
     ]
 }

@@ -1,4 +1,5 @@
 // A day: a report of each key, made, tested and filed.
+use crate::day_files;
 use crate::filing;
 use crate::made_up;
 use crate::report;
@@ -17,7 +18,7 @@ pub fn more(n: u64, yes: bool) -> u64 {
 }
 
 // Empties both servers' aggregates, before the first report.
-pub fn begin(left: &mut [u64], right: &mut [u64]) {
+fn begin(left: &mut [u64], right: &mut [u64]) {
     let mut key = 0;
     while key < filing::KEYS {
         filing::empty(left, key);
@@ -42,21 +43,17 @@ fn file_both(
     in_left.or(in_right)
 }
 
-// The report of a key in the lent rows. Whether it was filed.
-pub fn report_in(
+// The report of a key in the lent rows. Whether it was made, and is valid.
+fn is_made(
     param: PineParam,
     key: usize,
     seeded: bool,
-    left: &mut [u64],
-    right: &mut [u64],
     measurement: &mut [u64],
     results: &mut [u64],
     left_share: &mut [u64],
     right_share: &mut [u64],
     full: &mut [u64],
-) -> bool
-    requires { ⌜ key < 24 ⌝ }
-{
+) -> bool {
     let made = report::make(
         param,
         key,
@@ -73,33 +70,101 @@ pub fn report_in(
     if !report::is_valid(param, key, full) {
         return false;
     }
-    if !report::has_parts(param, full, results) {
+    report::has_parts(param, full, results)
+}
+
+// The same, filed in the row of aggregates. Whether it was.
+pub fn report_in(
+    param: PineParam,
+    key: usize,
+    seeded: bool,
+    left: &mut [u64],
+    right: &mut [u64],
+    measurement: &mut [u64],
+    results: &mut [u64],
+    left_share: &mut [u64],
+    right_share: &mut [u64],
+    full: &mut [u64],
+) -> bool
+    requires { ⌜ key < 24 ⌝ }
+{
+    let made = is_made(
+        param,
+        key,
+        seeded,
+        measurement,
+        results,
+        left_share,
+        right_share,
+        full,
+    );
+    if !made {
         return false;
     }
     let filed = file_both(param, key, left_share, right_share, left, right);
     filed.number == 0
 }
 
-// The report of a key in fresh rows.
-fn fresh_report(key: usize, left: &mut [u64], right: &mut [u64]) -> bool
+// Both servers add a report to their files, of len bytes. The length of the new ones, 0 where one was refused.
+fn add_both(
+    key: usize,
+    len: usize,
+    left_share: &[u64],
+    right_share: &[u64],
+    left: &[u8],
+    right: &[u8],
+    left_second: &mut [u8],
+    right_second: &mut [u8],
+) -> usize
     requires { ⌜ key < 24 ⌝ }
 {
-    let mut measurement = [0u64; 96];
-    let mut results = [0u64; 4];
-    let mut left_share = [0u64; 100];
-    let mut right_share = [0u64; 100];
-    let mut full = [0u64; 100];
-    report_in(
+    let in_left = day_files::add(key, left, len, left_share, left_second);
+    let in_right = day_files::add(key, right, len, right_share, right_second);
+    if in_left.len == in_right.len {
+        in_left.len as usize
+    } else {
+        0
+    }
+}
+
+// The report of a key in fresh rows, added to both files.
+fn fresh_report(
+    key: usize,
+    len: usize,
+    left: &[u8],
+    right: &[u8],
+    left_second: &mut [u8],
+    right_second: &mut [u8],
+) -> usize
+    requires { ⌜ key < 24 ⌝ }
+{
+    let mut measurement = [0u64; 82];
+    let mut results = [0u64; 3];
+    let mut left_share = [0u64; 85];
+    let mut right_share = [0u64; 85];
+    let mut full = [0u64; 85];
+    let made = is_made(
         report::param(),
         key,
         true,
-        left,
-        right,
         &mut measurement,
         &mut results,
         &mut left_share,
         &mut right_share,
         &mut full,
+    );
+    if !made {
+        return 0;
+    }
+    add_both(
+        key,
+        len,
+        &left_share,
+        &right_share,
+        left,
+        right,
+        left_second,
+        right_second,
     )
 }
 
@@ -112,11 +177,11 @@ fn same_as_fresh(
     right_share: &[u64],
     full: &[u64],
 ) -> bool {
-    let mut measurement_2 = [0u64; 96];
-    let mut results_2 = [0u64; 4];
-    let mut left_share_2 = [0u64; 100];
-    let mut right_share_2 = [0u64; 100];
-    let mut full_2 = [0u64; 100];
+    let mut measurement_2 = [0u64; 82];
+    let mut results_2 = [0u64; 3];
+    let mut left_share_2 = [0u64; 85];
+    let mut right_share_2 = [0u64; 85];
+    let mut full_2 = [0u64; 85];
     let made = report::make(
         report::param(),
         key,
@@ -137,16 +202,30 @@ fn same_as_fresh(
         & row::same(full, &full_2)
 }
 
-// The first day: fresh rows for each report, and a seed. How many were filed.
-pub fn first(left: &mut [u64], right: &mut [u64]) -> u64 {
-    begin(left, right);
-    let mut filed = 0;
-    let mut key = 0;
-    while key < filing::KEYS {
-        filed = more(filed, fresh_report(key, left, right));
-        key += 1;
+// The first day: fresh rows for each report, and a seed. The controllers report in turn: the files go from the
+// first rows to the second ones with a report of controller 1, and back with one of controller 2. Their length, 0
+// once a report was refused.
+pub fn first(
+    left: &mut [u8],
+    right: &mut [u8],
+    left_second: &mut [u8],
+    right_second: &mut [u8],
+) -> usize {
+    let mut len = day_files::begin_both(left, right);
+    let mut valve = 0;
+    while valve < filing::VALVES {
+        len = fresh_report(valve, len, left, right, left_second, right_second);
+        len = fresh_report(
+            filing::VALVES + valve,
+            len,
+            left_second,
+            right_second,
+            left,
+            right,
+        );
+        valve += 1;
     }
-    filed
+    len
 }
 
 // How many of a day's reports were filed, and how many equal those made in fresh rows.
@@ -219,11 +298,11 @@ fn second_in(
 
 // The second day: one set of rows, which are not fresh. The streams are lent.
 pub fn second(left: &mut [u64], right: &mut [u64]) -> Counts {
-    let mut measurement = [0u64; 96];
-    let mut results = [0u64; 4];
-    let mut left_share = [0u64; 100];
-    let mut right_share = [0u64; 100];
-    let mut full = [0u64; 100];
+    let mut measurement = [0u64; 82];
+    let mut results = [0u64; 3];
+    let mut left_share = [0u64; 85];
+    let mut right_share = [0u64; 85];
+    let mut full = [0u64; 85];
     row::fill(&mut measurement);
     row::fill(&mut results);
     row::fill(&mut left_share);
@@ -242,26 +321,26 @@ pub fn second(left: &mut [u64], right: &mut [u64]) -> Counts {
 }
 
 // A damaged report: in the left share of a key an element is p, which is no field number. The tests
-// and the aggregate refuse it, and the aggregate stays as it was.
-pub fn damaged(left: &mut [u64], key: usize) -> Answer
+// and the adding refuse it, and no row is changed.
+pub fn damaged(key: usize, file: &[u8], len: usize, second: &mut [u8]) -> Answer
     requires { ⌜ key < 24 ⌝ }
 {
-    let mut share = [0u64; 100];
+    let mut share = [0u64; 85];
     made_up::elements(made_up::begin(key, made_up::CUT), &mut share);
     share[2] = field64::P;
     let tested = report::test(report::param(), key, true, &mut share);
-    let filed = filing::file(report::param(), left, key, &share);
-    tested.or(filed)
+    let added = day_files::add(key, file, len, &share, second);
+    tested.or(added.answer)
 }
 
 // The report of a key is withdrawn: each server takes the share that it added out again.
 pub fn withdrawn(left: &mut [u64], right: &mut [u64], key: usize) -> Answer
     requires { ⌜ key < 24 ⌝ }
 {
-    let mut measurement = [0u64; 96];
-    let mut results = [0u64; 4];
-    let mut left_share = [0u64; 96];
-    let mut right_share = [0u64; 96];
+    let mut measurement = [0u64; 82];
+    let mut results = [0u64; 3];
+    let mut left_share = [0u64; 82];
+    let mut right_share = [0u64; 82];
     let made = report::client(
         report::param(),
         key,

@@ -1,4 +1,4 @@
-// The aggregates of a server, one for each key. A key is a controller and a valve:
+// The aggregates of a server without a file, one for each key. A key is a controller and a valve:
 // controller * 12 + valve, both counted from 0. A server's aggregates stand in one row.
 use crate::made_up;
 use crate::report::DIMENSION;
@@ -25,7 +25,7 @@ pub fn empty(aggregates: &mut [u64], key: usize) -> Answer
     vdaf::empty_aggregate(param(), &mut aggregates[start..end])
 }
 
-// 5. A server adds the gradient part of its full share to the aggregate of its key.
+// 7. Or a server keeps its aggregates itself: it adds the gradient part of its full share to that of its key.
 pub fn file(param: PineParam, aggregates: &mut [u64], key: usize, share: &[u64]) -> Answer
     requires { ⌜ key < 24 ⌝ }
 {
@@ -43,7 +43,7 @@ pub fn file(param: PineParam, aggregates: &mut [u64], key: usize, share: &[u64])
     vdaf::accumulate(param, &mut aggregates[start..end], gradient)
 }
 
-// 6. The two servers' aggregates of a key together give the sum of its gradients.
+// 8. The two servers' aggregates of a key together give the sum of its gradients.
 pub fn read(left: &[u64], right: &[u64], key: usize, decoded: &mut [f64]) -> Answer
     requires { ⌜ key < 24 ⌝ }
 {
@@ -81,7 +81,7 @@ fn merge_key(total: &mut [u64], aggregates: &[u64], key: usize) -> Answer
     vdaf::merge(param(), total, &aggregates[start..end])
 }
 
-// 7. A server merges aggregates: here those of a controller's valves, from the first key on.
+// 9. A server merges aggregates: here those of a controller's valves, from the first key on.
 pub fn merge_valves(total: &mut [u64], aggregates: &[u64], first: usize) -> Answer
     requires { ⌜ first ≤ 12 ⌝ }
 {
@@ -94,7 +94,7 @@ pub fn merge_valves(total: &mut [u64], aggregates: &[u64], first: usize) -> Answ
     answer
 }
 
-// 8. A grower withdraws: a server takes the gradient part of the share out of the aggregate of its key.
+// 10. A grower withdraws: a server takes the gradient part of the share out of the aggregate of its key.
 pub fn withdraw(aggregates: &mut [u64], key: usize, share: &[u64]) -> Answer
     requires { ⌜ key < 24 ⌝ }
 {

@@ -28,6 +28,26 @@ pub fn encoded(given: Answer) {
     }
 }
 
+fn byte(b: u8) {
+    io::print_hex(STDOUT_FILENO, b as u64, 2);
+}
+
+// Bytes in hexadecimal, a colon between two.
+pub fn address(bytes: &[u8]) {
+    let mut i = 0;
+    while i < bytes.len() {
+        if 0 < i {
+            text(b":");
+        }
+        byte(bytes[i]);
+        i += 1;
+    }
+}
+
+pub fn element(x: u64) {
+    io::print_hex(STDOUT_FILENO, x, 16);
+}
+
 // Two places, with a space for a 0 in front.
 pub fn two_places(n: u64) {
     if n < 10 {

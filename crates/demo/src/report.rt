@@ -9,16 +9,16 @@ use rules::Answer;
 // The lengths that these parameters derive; main tests them.
 pub const DIMENSION: usize = 4;
 
-pub const ENCODED_LEN: usize = 96;
+pub const ENCODED_LEN: usize = 82;
 
-pub const TESTS: usize = 4;
+pub const TESTS: usize = 3;
 
-pub const INPUT_LEN: usize = 100;
+pub const INPUT_LEN: usize = 85;
 
-// Four coordinates with 6 fractional bits. norm_bound is that of a gradient times 2^6. Of the four
+// Four coordinates with 6 fractional bits. norm_bound is that of a gradient times 2^6. Of the three
 // wraparound tests all must succeed. The multiplier of their bound is the standard one, 8.7.
 pub fn param() -> PineParam {
-    PineParam::standard(400, 4, 6, 8, 2, 4, 4)
+    PineParam::standard(400, 4, 6, 8, 2, 3, 3)
 }
 
 // The same but for how many tests must succeed, the multiplier, the rule of the tests and the switch for
@@ -77,7 +77,7 @@ pub fn encode(
             results,
         );
     }
-    let mut stream = [0u8; 4];
+    let mut stream = [0u8; 3];
     made_up::stream(key, &mut stream);
     encode::encode_with_wr_joint_rand(param, &gradient, &stream, measurement, results)
 }
@@ -102,7 +102,7 @@ fn run_tests(
         made_up::seed(key, &mut seed);
         return wr_tests::run_wr_tests_seed(param, gradient, &seed, results);
     }
-    let mut stream = [0u8; 4];
+    let mut stream = [0u8; 3];
     made_up::stream(key, &mut stream);
     wr_tests::run_wr_tests(param, gradient, &stream, results)
 }
@@ -114,7 +114,7 @@ pub fn test(param: PineParam, key: usize, seeded: bool, share: &mut [u64]) -> An
         return short();
     }
     let encoded_len = share.len() - TESTS;
-    let mut results = [0u64; 4];
+    let mut results = [0u64; 3];
     let answer = run_tests(param, key, seeded, &share[0..DIMENSION], &mut results);
     if answer.number == 0 {
         row::copy(&results, &mut share[encoded_len..]);

@@ -1,9 +1,11 @@
-// The table of a day: a line for each valve, with both controllers, and one for all valves. Of each
-// sum it shows coordinate 0, as the two servers' aggregates give it and as the gradients do, and
-// whether the two rows are equal.
+// The table of a day, from what both servers' files hold: a line for each valve, with both controllers, and
+// one for all valves. Of each sum it shows coordinate 0, as the two servers' bodies give it and as the gradients
+// do, and whether the two rows are equal.
+use crate::day_files;
 use crate::filing;
 use crate::made_up;
 use crate::print;
+use crate::report::DIMENSION;
 use crate::report::param;
 use crate::row;
 ghost use Prim.Native.Nat.{_<_, _≤_};
@@ -30,10 +32,10 @@ fn key(left: &[u64], right: &[u64], key: usize)
     entry(decoded[0], gradient[0], filing::is_true(left, right, key));
 }
 
-fn valve(left: &[u64], right: &[u64], valve: usize)
+fn valve(contents: &[u8], left: &[u64], right: &[u64], valve: usize)
     requires { ⌜ valve < 12 ⌝ }
 {
-    print::two_places(valve as u64 + 1);
+    print::two_places(day_files::valve(contents, valve));
     key(left, right, valve);
     key(left, right, filing::VALVES + valve);
     print::text(b"\n");
@@ -101,14 +103,49 @@ pub fn nothing_left(left: &[u64], right: &[u64], key: usize)
     print::text(b" its valve\n");
 }
 
-pub fn print(left: &[u64], right: &[u64]) {
-    print::text(
-        b"coordinate 0 of each sum, and whether all 4 are equal\n     controller 1                 controller 2\n",
+// An entry of both files: with what its two bodies begin, which alone is random, and what they give together.
+pub fn bodies(contents: &[u8], left: &[u64], right: &[u64], entry: usize)
+    requires { ⌜ entry < 24 ⌝ }
+{
+    let at = entry * DIMENSION;
+    if left.len() <= at {
+        return;
+    }
+    if right.len() <= at {
+        return;
+    }
+    let mut decoded = [0.0f64; 4];
+    filing::read(left, right, entry, &mut decoded);
+    day_files::address(contents, entry);
+    print::text(b", valve ");
+    print::counted(day_files::valve(contents, entry), b", reports ");
+    print::counted(
+        day_files::reports(contents, entry),
+        b": its bodies begin with ",
     );
-    print::text(b"valve  decoded       true           decoded       true\n");
+    print::element(left[at]);
+    print::text(b" and ");
+    print::element(right[at]);
+    print::text(b", together");
+    print::double(decoded[0]);
+    print::text(b"\n");
+}
+
+fn head(contents: &[u8]) {
+    print::text(
+        b"coordinate 0 of each sum, and whether all 4 are equal\n     controller 1                 controller 2\n     ",
+    );
+    day_files::address(contents, 0);
+    print::text(b"            ");
+    day_files::address(contents, filing::VALVES);
+    print::text(b"\nvalve  decoded       true           decoded       true\n");
+}
+
+pub fn print(contents: &[u8], left: &[u64], right: &[u64]) {
+    head(contents);
     let mut i = 0;
     while i < filing::VALVES {
-        valve(left, right, i);
+        valve(contents, left, right, i);
         i += 1;
     }
     print::text(b"  ");

@@ -2,10 +2,11 @@
 // what it does not test itself.
 use rules::Answer;
 ghost use mathlib.Core.Path.{_≡_};
+ghost use mathlib.Core.Bool.{_&&_};
 ghost use Prim.Native.Nat.{_+_, _*_, _≤_, _<_, _^_};
 ghost use lib.ListN.{length};
 ghost use Rattle.field64.specs.Field.{p64};
-ghost use Rattle.rows.specs.Rows.{rowRule, Below};
+ghost use Rattle.rows.specs.Rows.{rowRule};
 ghost use Rattle.octets.specs.Octets.{elementsIn, filled};
 ghost use Rattle.entries.specs.File.{countIn, allBelow, isRows, isFile, fileLen, header};
 ghost use Rattle.layout.specs.Layout.{fileRule};
@@ -46,31 +47,38 @@ pub fn file_len(dimension: u64, count: u64) -> u64
     6 + count * (12 + 8 * dimension)
 }
 
-// 2^63 or more just where one of the elements in the bytes is not below p. Each is tested, with no branch,
-// so that the loop runs on vectors.
-fn carries(bytes: &[u8], count: usize) -> u64
-    requires { ⌜ length (now bytes) ≡ 8 * count ⌝ }
-    ensures { λ r. ⌜ (r < 2 ^ 63 → Below p64 (elementsIn count (now (bytes .entry)))) ⌝ }
-    ensures { λ r. ⌜ (Below p64 (elementsIn count (now (bytes .entry))) → r < 2 ^ 63) ⌝ }
+// Whether each of the elements in two rows of bytes is below p. Each is tested, with no branch, so that the
+// loop runs on vectors; and the rows are read side by side, since memory gives two faster than one.
+fn both_below(left: &[u8], right: &[u8], count: usize) -> bool
+    requires { ⌜ (length (now left) ≡ 8 * count) × (length (now right) ≡ 8 * count) ⌝ }
+    ensures { λ r. ⌜ r ≡ allBelow p64 (elementsIn count (now (left .entry))) && allBelow p64 (elementsIn count (now (right .entry))) ⌝ }
 {
-    let mut seen = 0;
+    let mut in_left = 0;
+    let mut in_right = 0;
     let mut i = 0;
     while i < count {
         let at = 8 * i;
         let end = at + 8;
-        let element = octets::number8(&bytes[at..end]);
-        seen = rows::scan::or_carry(seen, element);
+        in_left = rows::scan::or_carry(in_left, octets::number8(&left[at..end]));
+        in_right = rows::scan::or_carry(in_right, octets::number8(&right[at..end]));
         i += 1;
     }
-    seen
+    if in_left < 1 << 63 {
+        return in_right < 1 << 63;
+    }
+    false
 }
 
-// Whether each of the elements in the bytes is below p.
+// The same of one row, by its halves. The middle element of an odd count is in both.
 fn elements_below(bytes: &[u8], count: usize) -> bool
     requires { ⌜ length (now bytes) ≡ 8 * count ⌝ }
     ensures { λ r. ⌜ r ≡ allBelow p64 (elementsIn count (now (bytes .entry))) ⌝ }
 {
-    carries(bytes, count) < 1 << 63
+    let start = count / 2;
+    let half = count - start;
+    let right = 8 * start;
+    let left_end = 8 * half;
+    both_below(&bytes[0..left_end], &bytes[right..], half)
 }
 
 // Whether the rows of a file make one: contents as bytes, and so many elements as bytes.

@@ -6,22 +6,13 @@ use Rattle.demo.proofs.table.print.Statement.{statement}
 use Rattle.demo.proofs.table.print.Tie as tie
 
 abbrev Inv-loop : tie.InvT-loop
-Inv-loop left right i₀ t6 t7 i = (i ≤ 12)
+Inv-loop contents left right i₀ t5 t6 i = (i ≤ 12)
 
 abbrev μ-loop : tie.MeasureT-loop
-μ-loop left right i₀ t6 t7 i = 12 - i
+μ-loop contents left right i₀ t5 t6 i = 12 - i
 
-slice-aggregate-text : tie.Need-slice-aggregate-text Inv-loop μ-loop
-slice-aggregate-text c = search needs
-
-text-requires : tie.Need-text-requires Inv-loop μ-loop
-text-requires c κs = search needs
-
-slice-aggregate-text-2 : tie.Need-slice-aggregate-text-2 Inv-loop μ-loop
-slice-aggregate-text-2 c = search needs
-
-text-requires-2 : tie.Need-text-requires-2 Inv-loop μ-loop
-text-requires-2 c κs = search needs
+head-requires : tie.Need-head-requires Inv-loop μ-loop
+head-requires c κs = search needs
 
 loop-holds : tie.Need-loop-holds Inv-loop μ-loop
 loop-holds c = search needs
@@ -38,11 +29,11 @@ loop-less c = search needs
 loop-again : tie.Need-loop-again Inv-loop μ-loop
 loop-again c = search needs
 
-slice-aggregate-text-3 : tie.Need-slice-aggregate-text-3 Inv-loop μ-loop
-slice-aggregate-text-3 c = search needs
+slice-aggregate-text : tie.Need-slice-aggregate-text Inv-loop μ-loop
+slice-aggregate-text c = search needs
 
-text-requires-3 : tie.Need-text-requires-3 Inv-loop μ-loop
-text-requires-3 c κs = search needs
+text-requires : tie.Need-text-requires Inv-loop μ-loop
+text-requires c κs = search needs
 
 controller-requires : tie.Need-controller-requires Inv-loop μ-loop
 controller-requires c κs = search needs
@@ -50,11 +41,11 @@ controller-requires c κs = search needs
 controller-requires-2 : tie.Need-controller-requires-2 Inv-loop μ-loop
 controller-requires-2 c κs = search needs
 
-slice-aggregate-text-4 : tie.Need-slice-aggregate-text-4 Inv-loop μ-loop
-slice-aggregate-text-4 c = search needs
+slice-aggregate-text-2 : tie.Need-slice-aggregate-text-2 Inv-loop μ-loop
+slice-aggregate-text-2 c = search needs
 
-text-requires-4 : tie.Need-text-requires-4 Inv-loop μ-loop
-text-requires-4 c κs = search needs
+text-requires-2 : tie.Need-text-requires-2 Inv-loop μ-loop
+text-requires-2 c κs = search needs
 
 returns : tie.Need-returns Inv-loop μ-loop
 returns c = search needs
@@ -65,19 +56,16 @@ print-spec =
     (tie.spec
     Inv-loop
     μ-loop
-    slice-aggregate-text
-    text-requires
-    slice-aggregate-text-2
-    text-requires-2
+    head-requires
     loop-holds
     valve-requires
     add-i
     loop-less
     loop-again
-    slice-aggregate-text-3
-    text-requires-3
+    slice-aggregate-text
+    text-requires
     controller-requires
     controller-requires-2
-    slice-aggregate-text-4
-    text-requires-4
+    slice-aggregate-text-2
+    text-requires-2
     returns)
