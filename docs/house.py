@@ -133,10 +133,14 @@ def place(rows: list[list[Node]], lines: list[list[Node]], width: float) -> dict
             left.append(min(wanted[node], left[-1] - apart(node, after)))
         for node, a, b in zip(row, right, left[::-1]):
             x[node] = (a + b) / 2
-        first, last = row[0], row[-1]
-        shift = max(0, MARGIN + first.width() / 2 - x[first]) + min(0, width - MARGIN - last.width() / 2 - x[last])
-        for node in row:
-            x[node] += shift
+        edge = MARGIN + row[0].width() / 2
+        for node, after in zip(row, [*row[1:], None]):
+            x[node] = max(x[node], edge)
+            edge = x[node] + apart(node, after) if after else edge
+        edge = width - MARGIN - row[-1].width() / 2
+        for node, before in zip(row[::-1], [*row[-2::-1], None]):
+            x[node] = min(x[node], edge)
+            edge = x[node] - apart(before, node) if before else edge
 
     for row in rows:
         settle(row, {node: width * (i + 1) / (len(row) + 1) for i, node in enumerate(row)})
