@@ -18,7 +18,7 @@ use Rattle.turboshake.proofs.Drawn.{length-drawn, drawn-add, after-add}
 use Rattle.turboshake.proofs.Shake.{drawn-front}
 use Rattle.sampler.specs.declared.Draws.{Draws}
 use Rattle.sampler.specs.Sampler.{keptOf, valuesOf}
-use Rattle.sampler.specs.Drawing.{Begins, DrewNext, Drawing, DrewFrom}
+use Rattle.sampler.specs.Drawing.{toCome, Begins, DrewNext, Drawing, DrewFrom}
 use Rattle.sampler.proofs.Values.{kept-append, values-none, values-length, values-add, values-front}
 
 -- the row's front has those kept of the first i elements, and from i on it is as it was
@@ -212,7 +212,23 @@ module _ (p : ℕ) (s : Sponge) (n : ℕ) where
             let l = lt-of-not-le g in
             lt-leb (w - r .count) (length left) (omega (arith, count-of)) ∙ sym (lt-leb w (length (valuesOf p n (drawn (8 * n) s))) l)
 
+    none-left : r .left ≡ 0 → length left ≡ 0
+    none-left e = ap (λ (j : ℕ). length (valuesOf p j (drawn (8 * j) (r .stream)))) e ∙ ap length (values-none p (drawn (8 * 0) (r .stream)))
+
     pub too-few : (w : ℕ) → length row ≤ w → r .count < length row → false ≡ leb w (length (valuesOf p n (drawn (8 * n) s)))
-    too-few w h g =
-        let none : length left ≡ 0 = ap (λ (j : ℕ). length (valuesOf p j (drawn (8 * j) (r .stream)))) (d .ends g) ∙ ap length (values-none p (drawn (8 * 0) (r .stream))) in
-        sym (lt-leb w (length (valuesOf p n (drawn (8 * n) s))) (omega (arith, count-of, none)))
+    too-few w h g = sym (lt-leb w (length (valuesOf p n (drawn (8 * n) s))) (omega (arith, count-of, none-left (d .ends g))))
+
+    -- ---- of a row for which there are enough
+
+    module _ (h : length row ≤ length (toCome p n s)) where
+      full : r .count ≡ length row
+      full = go (decLe (length row) (r .count))
+        where
+          go : Dec (length row ≤ r .count) → r .count ≡ length row
+          go (yes l) = omega (arith, d .drawing .within)
+          go (no g) =
+              let l = lt-of-not-le g in
+              absurd (omega (arith, none-left (d .ends l), count-of, h))
+
+      pub row-drawn : toCome p n s ≡ row ++ toCome p (r .left) (r .stream)
+      row-drawn = all-of ∙ ap (λ (xs : List ℕ). xs ++ left) (sym (d .drawing .begins .0) ∙ take-all (r .count) row (omega (arith, full)))

@@ -8,6 +8,10 @@ use Rattle.turboshake.specs.Stream.{drawn, after}
 use Rattle.sampler.specs.declared.Draws.{Draws}
 use Rattle.sampler.specs.Sampler.{valuesOf}
 
+-- of the next n values of a stream, those below p
+abbrev pub toCome : (p n : ℕ) → Sponge → List ℕ
+toCome p n s = valuesOf p n (drawn (8 * n) s)
+
 -- the row begins with k elements: of the first u values of the bytes, those below p
 abbrev pub Begins : (p : ℕ) (bytes : List ℕ) (u k : ℕ) (row : List ℕ) → Type 0
 Begins p bytes u k row = (take k row ≡ valuesOf p u bytes) × (k ≡ length (valuesOf p u bytes))

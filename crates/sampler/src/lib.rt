@@ -6,16 +6,15 @@ use pine::record::Pine;
 use rules::Answer;
 use turboshake::Sponge;
 ghost use mathlib.Core.Path.{_≡_};
+ghost use mathlib.Core.List.{_++_};
 ghost use Prim.Native.Nat.{_+_, _*_, _/_, _^_, _≤_, _<_, min};
 ghost use lib.ListN.{length, take};
 ghost use lib.Dec.{leb};
 ghost use Rattle.field64.specs.Field.{p64};
 ghost use Rattle.pine.specs.Param.{Field64};
 ghost use Rattle.rows.specs.Outcome.{outcome};
-ghost use Rattle.octets.specs.Octets.{elementsIn};
-ghost use Rattle.turboshake.specs.Stream.{drawn};
 ghost use Rattle.sampler.specs.Sampler.{keptOf, valuesOf, sampleOf};
-ghost use Rattle.sampler.specs.Drawing.{DrewNext, DrewFrom};
+ghost use Rattle.sampler.specs.Drawing.{toCome, DrewNext, DrewFrom};
 
 // So many values are drawn at most beyond those that are wanted.
 pub const MORE_DRAWS: u64 = 64;
@@ -110,10 +109,18 @@ pub fn draw(stream: Sponge, left: usize, row: &mut [u64]) -> Draws
     draw_by(stream, left, &mut bytes, row)
 }
 
+// The same for a row that will be full: there are enough.
+pub fn draw_row(stream: Sponge, left: usize, row: &mut [u64]) -> Draws
+    requires { ⌜ (stream .at < 168) × (length (now row) ≤ length (toCome p64 left stream)) ⌝ }
+    ensures { λ r. ⌜ (toCome p64 left stream ≡ now (row .exit) ++ toCome p64 (r .left) (r .stream)) × (r .stream .at < 168) ⌝ }
+{
+    draw(stream, left, row)
+}
+
 // Whether so many values below p are among those that may still be drawn.
 pub fn has_values(stream: Sponge, left: usize, wanted: usize) -> bool
     requires { ⌜ stream .at < 168 ⌝ }
-    ensures { λ r. ⌜ r ≡ leb wanted (length (valuesOf p64 left (drawn (8 * left) stream))) ⌝ }
+    ensures { λ r. ⌜ r ≡ leb wanted (length (toCome p64 left stream)) ⌝ }
 {
     let mut spare = [0u64; PIECE];
     let mut state = stream;
