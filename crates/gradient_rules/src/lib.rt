@@ -111,7 +111,7 @@ fn check_enough(results: &[u64], bound: u64, successes: u64) -> Answer
 }
 
 // The one of the two that the inputs name.
-pub fn check_results(rule: WrTestRule, results: &[u64], bound: u64, successes: u64) -> Answer
+fn check_results(rule: WrTestRule, results: &[u64], bound: u64, successes: u64) -> Answer
     requires { ⌜ bound ≤ p64 ⌝ }
     ensures { λ r. ⌜ r ≡ rangeRule rule p64 bound successes (now (results .entry)) ⌝ }
 {

@@ -12,7 +12,7 @@ use Rattle.xof.specs.Xof.{algorithmId, dst, beforeBinder}
 use Rattle.xof.proofs.Frame.{parts-absorbed, drawn-is}
 use Rattle.joint_rand.specs.JointRand.{partBinder, partMessage, jointRandPart, jointRandSeed}
 
-bytes-joined : (xs ys : List ℕ) → bytesOf (xs ++ ys) ≡ bytesOf xs ++ bytesOf ys
+pub bytes-joined : (xs ys : List ℕ) → bytesOf (xs ++ ys) ≡ bytesOf xs ++ bytesOf ys
 bytes-joined [] ys = refl
 bytes-joined (x ∷ xs) ys = ap (λ (r : List ℕ). lowBytes 8 x ++ r) (bytes-joined xs ys) ∙ sym (append-assoc (lowBytes 8 x) (bytesOf xs) (bytesOf ys))
 
