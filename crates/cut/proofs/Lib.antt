@@ -1,4 +1,2 @@
--- `Taking`: pieces of the shares in the wraparound parts. `Shares`: the shares and seeds. `Cutting`: the cases of the call.
-pub mod Taking
-pub mod Shares
+-- `Cutting`: the cases of the call.
 pub mod Cutting

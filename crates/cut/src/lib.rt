@@ -56,14 +56,7 @@ fn squared_norm(gradient: &[f64], scale: f64, frac_bits: u64) -> Sum
     let stream = [0u8; 1];
     let mut results = [0u64; 1];
     let per = (gradient.len() + 3) / 4;
-    gradient::norm_and_tests(
-        gradient,
-        scale,
-        frac_bits,
-        per,
-        &stream,
-        &mut results[..0],
-    )
+    gradient::norm_and_tests(gradient, scale, frac_bits, per, &stream, &mut results[..0])
 }
 
 // Cutting from the tests on: rule 11 or 20 is encoding's, and the measurement goes to the leader's row.
@@ -127,9 +120,7 @@ fn cut_from_norm(
         };
     }
     let wr = shares::wr_seed(param, pine, gradient, v, nonce, seeds);
-    cut_from_tests(
-        param, gradient, nonce, seeds, wr, leader, helper, given,
-    )
+    cut_from_tests(param, gradient, nonce, seeds, wr, leader, helper, given)
 }
 
 // Cuts the report of a gradient, with the five seeds of the Rust's order: the leader's share and the helper's go to a row
@@ -154,7 +145,5 @@ pub fn cut(
     if early.number != 0 {
         return early;
     }
-    cut_from_norm(
-        param, pine, gradient, nonce, seeds, leader, helper, given,
-    )
+    cut_from_norm(param, pine, gradient, nonce, seeds, leader, helper, given)
 }

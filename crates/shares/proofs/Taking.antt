@@ -44,11 +44,11 @@ module _ (p : ℕ) where
       record {
         room = omega (arith, n, e .room, ap length (d .rest), length-drop (length xs) all, d .room);
         leader =
-        joined (subRows p xs (take (length xs) all)) (subRows p ys (take (length ys) (helperRest p b))) (a .leader) (b .leader) (c .leader) (d .leader) (e .leader)
-        ∙ ap (λ (r : List ℕ). absorbAll (bytesOf r) (a .leader)) (sym (append-by (subMod p) xs (take (length xs) all) ys (take (length ys) (helperRest p b)) (sym first)) ∙ ap (subRows p (xs ++ ys)) front);
+            joined (subRows p xs (take (length xs) all)) (subRows p ys (take (length ys) (helperRest p b))) (a .leader) (b .leader) (c .leader) (d .leader) (e .leader)
+            ∙ ap (λ (r : List ℕ). absorbAll (bytesOf r) (a .leader)) (sym (append-by (subMod p) xs (take (length xs) all) ys (take (length ys) (helperRest p b)) (sym first)) ∙ ap (subRows p (xs ++ ys)) front);
         helper =
-        joined (take (length xs) all) (take (length ys) (helperRest p b)) (a .helper) (b .helper) (c .helper) (d .helper) (e .helper)
-        ∙ ap (λ (r : List ℕ). absorbAll (bytesOf r) (a .helper)) front;
+            joined (take (length xs) all) (take (length ys) (helperRest p b)) (a .helper) (b .helper) (c .helper) (d .helper) (e .helper)
+            ∙ ap (λ (r : List ℕ). absorbAll (bytesOf r) (a .helper)) front;
         rest = e .rest ∙ ap (drop (length ys)) (d .rest) ∙ drop-drop (length ys) (length xs) all ∙ ap (λ (k : ℕ). drop k all) (sym n);
         placed = e .placed;
       }

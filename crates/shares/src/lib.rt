@@ -129,13 +129,7 @@ fn take_piece(from: Parts, row: &mut [u64]) -> Parts
 }
 
 // The elements of some coordinates, with a row of as many.
-fn take_elements(
-    from: Parts,
-    part: &[f64],
-    scale: f64,
-    frac_bits: u64,
-    row: &mut [u64],
-) -> Parts
+fn take_elements(from: Parts, part: &[f64], scale: f64, frac_bits: u64, row: &mut [u64]) -> Parts
     requires { ⌜ Placed from × (length (now part) ≤ length (helperRest p64 from)) ⌝ }
     requires { ⌜ Usable floorLimit64 «frac_bits» (now part) × (scale ≡ power «frac_bits») ⌝ }
     requires { ⌜ (length (now row) ≡ length (now part)) × (length (now part) ≤ 128) ⌝ }
@@ -157,13 +151,7 @@ fn take_gradient(from: Parts, gradient: &[f64], scale: f64, frac_bits: u64) -> P
     while at < gradient.len() {
         let n = groups::at_most(gradient.len() - at, PIECE);
         let end = at + n;
-        parts = take_elements(
-            parts,
-            &gradient[at..end],
-            scale,
-            frac_bits,
-            &mut row[..n],
-        );
+        parts = take_elements(parts, &gradient[at..end], scale, frac_bits, &mut row[..n]);
         at = end;
     }
     parts
