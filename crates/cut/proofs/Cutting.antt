@@ -11,7 +11,7 @@ use lib.Ieee.{Float}
 use borrow.Author.Tests.{eq-eqb, ne-eqb, eqb-true, leb-true, leb-false, lt-ltb, le-ltb}
 use Rattle.rules.specs.declared.Answer.{Answer}
 use Rattle.rules.specs.Rules.{answer, accepted, first, inOrder}
-use Rattle.rules.proofs.Chain.{first-refused, first-passed, first-assoc, split, both, none, Passed, passed, accepts, accepted-whole, not-so, so}
+use Rattle.rules.proofs.Chain.{first-refused, first-passed, first-assoc, split, both, none, Passed, passed, accepts, accepted-whole, so}
 use Rattle.field64.specs.Field.{subMod}
 use Rattle.pine.specs.declared.PineParam.{PineParam}
 use Rattle.pine.specs.declared.record.Pine.{Pine}
@@ -36,6 +36,7 @@ use Rattle.wr_joint_rand.proofs.Seeds.{stream-long}
 use Rattle.sampler.specs.Sampler.{drawLimit, valuesOf, sampled, drawsRule}
 use Rattle.sampler.specs.Drawing.{toCome}
 use Rattle.shares.specs.Shares.{helperStream, helperShare, wrSeed, vfJointRand}
+use Rattle.shares.proofs.Seeds.{rule-met}
 use Rattle.cut.specs.Cut.{wrStreamOf, leaderShare, vfSeed, cutOutcome, cutRules, cutAnswer, cutOf}
 use Rattle.cut.specs.Late.{rowsAnswer, MetUpTo}
 
@@ -204,11 +205,8 @@ module _ (F : Field) (i : PineParam) (g : List Float) (nonce seeds leader helper
 
   module _ (met : MetUpTo 11 F i g nonce seeds leader helper given) where
     pub draws-were : drawsRule (F .p) n (helperStream n seeds) ≡ accepted
-    unfolding cutRules drawsRule
-    draws-were =
-        let found = length (valuesOf (F .p) (drawLimit n) (helperStream n seeds)) in
-        let some : ltb found n ≡ false = not-so (ltb found n) 17 0 (passed (take 11 rules) (none met) .1 .1 .1 .1 .1 .1 .1 .1 .1 .1 .0) in
-        rw some
+    unfolding cutRules
+    draws-were = rule-met (F .p) n (helperStream n seeds) (passed (take 11 rules) (none met) .1 .1 .1 .1 .1 .1 .1 .1 .1 .1 .0)
 
     pub met-8 : MetUpTo 8 F i g nonce seeds leader helper given
     met-8 = fewer 8 11 rules (omega arith) met

@@ -1,6 +1,5 @@
 -- The helper's values, and the seeds that the parts make. Assumes nothing.
 use mathlib.Core.Path.{_≡_, refl, sym, ap, ap₂, subst, _∙_}
-use mathlib.Core.Bool.{false}
 use mathlib.Core.List.{List, [], _∷_, _++_, append-assoc}
 use Prim.Native.Nat.{ℕ, zero, suc, _+_, _-_, _*_, _≤_, _<_}
 use native.Mathlib.Omega.{arith}
@@ -9,9 +8,8 @@ use lib.Seq.{take-at, take-take, length-take-le}
 use lib.Dec.{ltb, lit<}
 use lib.Ieee.{Float}
 use borrow.Author.Tests.{ltb-false}
-use Rattle.rules.specs.declared.Answer.{Answer}
 use Rattle.rules.specs.Rules.{accepted}
-use Rattle.rules.proofs.Chain.{not-so}
+use Rattle.rules.proofs.Chain.{none, not-so}
 use Rattle.field64.specs.Field.{subMod}
 use Rattle.pine.specs.declared.PineParam.{PineParam}
 use Rattle.pine.specs.Param.{Field}
@@ -66,11 +64,13 @@ stream-is seeds seed r f e is n =
     ∙ drawn-is (seedAt 0 seeds) 1 (1 ∷ []) (8 * drawLimit n) (seed-bytes 0 seeds f) (lit< tt, tt)
 
 -- where rule 18 is met, there are enough
+pub rule-met : (p n : ℕ) (bytes : List ℕ) → drawsRule p n bytes .number ≡ 0 → drawsRule p n bytes ≡ accepted
+unfolding drawsRule
+rule-met p n bytes e = rw (not-so (ltb (length (valuesOf p (drawLimit n) bytes)) n) 17 0 e)
+
 pub enough : (p n : ℕ) (bytes : List ℕ) → drawsRule p n bytes ≡ accepted → n ≤ length (valuesOf p (drawLimit n) bytes)
 unfolding drawsRule
-enough p n bytes e =
-    let f : ltb (length (valuesOf p (drawLimit n) bytes)) n ≡ false = not-so (ltb (length (valuesOf p (drawLimit n) bytes)) n) 17 0 (ap (λ (a : Answer). a .number) e) in
-    ltb-false (length (valuesOf p (drawLimit n) bytes)) n f
+enough p n bytes e = ltb-false (length (valuesOf p (drawLimit n) bytes)) n (not-so (ltb (length (valuesOf p (drawLimit n) bytes)) n) 17 0 (none e))
 
 module _ (p n : ℕ) (bytes : List ℕ) (met : drawsRule p n bytes ≡ accepted) where
   pub sampled-long : length (sampled p n bytes) ≡ n

@@ -49,9 +49,13 @@ vfJointRand nonce seeds leader helper = jointRand 7 6 (vfBlind₀ seeds) (vfBlin
 
 -- ---- the shares
 
--- the stream of a helper's share of n elements, up to the drawing limit: usage 1, the helper's number as the binder
+-- the first k values of the stream of a helper's share, eight bytes each: usage 1, the helper's number as the binder
+abbrev pub helperBytes : (k : ℕ) (seeds : List ℕ) → List ℕ
+helperBytes k seeds = xofTurboShake128 (measShareSeed₁ seeds) (dst algorithmId 1) (1 ∷ []) (8 * k)
+
+-- as many as are drawn at most for n elements
 unfoldable pub helperStream : (n : ℕ) (seeds : List ℕ) → List ℕ
-helperStream n seeds = xofTurboShake128 (measShareSeed₁ seeds) (dst algorithmId 1) (1 ∷ []) (8 * drawLimit n)
+helperStream n seeds = helperBytes (drawLimit n) seeds
 
 -- how many elements of a measurement come before its test bits: the Rust's `encoded_gradient_and_sq_norm_len`
 abbrev pub gradientAndNormLen : PineParam → ℕ
