@@ -132,7 +132,16 @@ fn check_true_norm(on: bool, norm: Sum, sq_norm_bound: u64) -> Answer
     Answer::accepted()
 }
 
-// Rules 21, 10, and 11 or 20. v is the squared norm modulo p.
+// Rules 21 and 10. v is the squared norm modulo p.
+pub fn check_norm(true_sq_norm: bool, norm: Sum, v: u64, sq_norm_bound: u64) -> Answer
+    ensures { λ r. ⌜ r ≡ first (trueSqNormRule «true_sq_norm» (wordsOf norm) «sq_norm_bound») (sqNormRule v «sq_norm_bound») ⌝ }
+{
+    let unreduced = check_true_norm(true_sq_norm, norm, sq_norm_bound);
+    let reduced = Answer::refuse_if(sq_norm_bound < v, rules::SQ_NORM, 0);
+    unreduced.or(reduced)
+}
+
+// Rules 21, 10, and 11 or 20.
 pub fn check_norm_and_tests(
     true_sq_norm: bool,
     norm: Sum,
@@ -146,8 +155,7 @@ pub fn check_norm_and_tests(
     requires { ⌜ bound ≤ p64 ⌝ }
     ensures { λ r. ⌜ r ≡ first (trueSqNormRule «true_sq_norm» (wordsOf norm) «sq_norm_bound») (first (sqNormRule v «sq_norm_bound») (rangeRule rule p64 bound successes (now (results .entry)))) ⌝ }
 {
-    let unreduced = check_true_norm(true_sq_norm, norm, sq_norm_bound);
-    let reduced = Answer::refuse_if(sq_norm_bound < v, rules::SQ_NORM, 0);
-    let tests = check_results(rule, results, bound, successes);
-    unreduced.or(reduced.or(tests))
+    let of_norm = check_norm(true_sq_norm, norm, v, sq_norm_bound);
+    let of_tests = check_results(rule, results, bound, successes);
+    of_norm.or(of_tests)
 }

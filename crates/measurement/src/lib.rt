@@ -60,7 +60,7 @@ pub fn write_elements(gradient: &[f64], scale: f64, frac_bits: u64, row: &mut [u
 }
 
 // Writes the low bits of a number over a row, low bit first.
-fn write_bits(value: u64, row: &mut [u64])
+pub fn write_bits(value: u64, row: &mut [u64])
     ensures { λ _. ⌜ now (row .exit) ≡ bits (length (now (row .entry))) value ⌝ }
 {
     let mut rest = value;

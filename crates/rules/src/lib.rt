@@ -2,7 +2,7 @@
 // the rules' numbers, by name, and the order by which the first refusal decides. The table of the rules
 // is in docs/PINE.md, "The rules"; what each says is defined where it applies: in the specs/ of pine (1
 // to 6, and 19), doubles (4, and 8 and 12 of one number), rows (7 and 12), flp (8 to 11, 13, 17, 20 and
-// 21), layout (14), file_add (15 and 16) and load_report (22).
+// 21), layout (14), file_add (15 and 16), sampler (18) and load_report (22).
 ghost use mathlib.Core.Path.{_≡_};
 ghost use mathlib.Core.Bool.{cond};
 ghost use lib.Dec.{eqb};
@@ -42,6 +42,8 @@ pub const FILE_FULL: u64 = 15;
 pub const REPORT_COUNT: u64 = 16;
 // The floor of a coordinate lies beyond the field's limit.
 pub const FLOOR: u64 = 17;
+// Too few of the values drawn for a share are below the field's modulus.
+pub const DRAWS: u64 = 18;
 // A number of the multiplier alpha is 0.
 pub const ALPHA: u64 = 19;
 // Fewer wraparound tests are in range than are to succeed.

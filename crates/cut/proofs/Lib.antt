@@ -1,0 +1,2 @@
+-- `Cutting`: the cases of the call.
+pub mod Cutting

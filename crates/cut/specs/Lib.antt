@@ -1,0 +1,3 @@
+-- `Cut` is what the call gives; `Late` the call in steps.
+pub mod Cut
+pub mod Late

@@ -1,0 +1,2 @@
+-- `Accepted`: what an accepted call has given.
+mod Accepted

@@ -1,0 +1,2 @@
+-- What an accepted call of `cut` gives.
+pub mod CutReports

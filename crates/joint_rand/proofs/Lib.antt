@@ -1,0 +1,2 @@
+-- Laws of parts and seeds.
+pub mod Parts

@@ -1,0 +1,2 @@
+-- The parts of the aggregators, and their seed.
+pub mod JointRand
