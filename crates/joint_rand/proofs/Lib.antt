@@ -1,2 +1,3 @@
--- Laws of parts and seeds.
+-- Laws of parts and seeds. `Examples` are computed.
 pub mod Parts
+mod Examples

@@ -1,3 +1,4 @@
--- `Taking`: pieces of the shares in the wraparound parts. `Seeds`: the helper's values, and the seeds.
+-- `Taking`: pieces of the shares in the wraparound parts. `Seeds`: the helper's values, and the seeds. `Examples` are computed.
 pub mod Taking
 pub mod Seeds
+mod Examples
