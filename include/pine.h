@@ -5,17 +5,17 @@
  * randomness is the caller's, time is not constant, and nothing is said of privacy. README.md, "What it is not",
  * has each of these, and what the randomness must be; "A report, step by step" says what the words here mean.
  *
- * Each call is the function of the same name in the Rattle crates doubles, params, wr_tests, encode,
- * validity, vdaf, day_file, file_add and file_size, or locate_gradient and so on in parts, with the same contract: for ANY numbers and any
- * bytes in its rows it ends, reads and writes inside its rows only, and gives exactly what the definitions in
- * crates/.../specs say, refusals included. docs/PINE.md has these in words, docs/C.md the tables of rows and
- * refusals, and how to link.
+ * Each call is the function of the same name in the Rattle crates doubles, params, wr_tests, encode, cut, sampler,
+ * validity, vdaf, day_file, file_add and file_size, or locate_gradient and so on in parts, with the same contract: for
+ * ANY numbers and any bytes in its rows it ends, reads and writes inside its rows only, and gives exactly what the
+ * definitions in crates/.../specs say, refusals included. docs/PINE.md has these in words, docs/C.md the tables of rows
+ * and refusals, and how to link.
  *
  * Numbers. A field number is a uint64_t below p = 2^64 - 2^32 + 1. A row is a pointer and its length in
  * elements, in that order. Derive the lengths by pine_derive.
  *
  * Answers. number 0 and place 0: accepted, the arguments were in order. Otherwise number is the first rule
- * broken, in the order 1 to 6, 19, 7, 14, 13, 12, 15, 16, 8 with 17, 9, 21, 10, 11 or 20 in its place, and place is
+ * broken, in the order 1 to 6, 19, 7, 14, 13, 12, 15, 16, 8 with 17, 9, 21, 10, 18, 11 or 20 in its place, and place is
  * where (enum PineRule; pine_rule_text has each in words). A refused call leaves every row as it was. An accepted call
  * writes every element of its output rows and reads none of what they held before (of an aggregate that is added
  * to or taken from: argument and result; of a file that is added to, the second row is written up to the new length,
@@ -85,6 +85,13 @@ extern "C" {
 /* The bytes of a seed. */
 #define PINE_SEED_LEN 16
 
+/* A report that is cut here: the bytes of its nonce, of the five seeds that it takes, of the two that are given; and
+ * how many values more than encoded_input_len are drawn at most for the helper's share. */
+#define PINE_NONCE_LEN 16
+#define PINE_CUT_SEEDS_LEN 80
+#define PINE_JOINT_RAND_SEEDS_LEN 32
+#define PINE_MORE_DRAWS 64
+
 /* What number says, and place beside it. */
 enum PineRule {
     PINE_ACCEPTED = 0,
@@ -110,6 +117,8 @@ enum PineRule {
                                   * file, from 0 */
     PINE_FLOOR = 17,             /* a coordinate's floor is below -(p - 1) / 2 or above (p - 1) / 2; place: its
                                   * index in the gradient. Of 8 and 17 the lower index is answered */
+    PINE_DRAWS = 18,             /* of encoded_input_len + PINE_MORE_DRAWS values drawn for the helper's share, fewer
+                                  * than encoded_input_len are below p; place 0 */
     PINE_ALPHA = 19,             /* alpha_numerator or alpha_denominator is 0; place 0 */
     PINE_WR_TESTS_IN_RANGE = 20, /* by PINE_ENOUGH_TESTS, fewer than num_wr_successes tests are in range; place:
                                   * how many are */
@@ -140,6 +149,7 @@ static inline const char *pine_rule_text(uint64_t number) {
     case PINE_FILE_FULL: return "the file has no room for a new key";
     case PINE_REPORT_COUNT: return "the key has as many reports as it can count";
     case PINE_FLOOR: return "a coordinate's floor is out of the field's limits";
+    case PINE_DRAWS: return "too few of the values drawn are below the modulus";
     case PINE_ALPHA: return "alpha_numerator or alpha_denominator is 0";
     case PINE_WR_TESTS_IN_RANGE: return "too few wraparound tests are in range";
     case PINE_TRUE_SQ_NORM: return "the squared norm without reduction is above its bound";
@@ -378,6 +388,39 @@ PINE_MUST_USE PineAnswer pine_run_wr_tests_seed(PineParam param,
                                                 const uint64_t *gradient, size_t gradient_len,
                                                 const uint8_t *seed, size_t seed_len,
                                                 uint64_t *results, size_t results_len);
+
+/* ---- a report, cut in two: all that a client sends, but for the proofs
+ *
+ * The five seeds are, in this order, that of the helper's share, the helper's blinds of the wraparound and of the
+ * verification joint randomness, and the leader's two: meas_share_seed_1, wr_blind_1, vf_blind_1, wr_blind_0 and
+ * vf_blind_0 of the original. They are fresh, five for each report; from a cryptographic source; and secret: whoever
+ * has the first and the leader's share has the gradient. The nonce is the report's own and public.
+ *
+ * The leader's share is for the leader and the helper's for the helper, each alone. The two seeds given are for both:
+ * the first is the seed of the report's tests (pine_run_wr_tests_seed), the second that of the joint randomness. They
+ * come from the shares, the blinds and the nonce, so that a client can try others but choose none. PINE's servers test
+ * that by parts of the joint randomness, for which there is no call here. */
+
+/* Encodes a gradient of doubles (row 1, length d) and cuts its measurement in two, as shard_with_rand of the original
+ * does up to the proofs. Read with it: the nonce (row 2, PINE_NONCE_LEN), the five seeds (row 3, PINE_CUT_SEEDS_LEN).
+ * Written: the leader's share (row 4, encoded_input_len), the helper's share (row 5, encoded_input_len), and two seeds
+ * (row 6, PINE_JOINT_RAND_SEEDS_LEN), that of the wraparound tests first. The shares are field numbers that add up,
+ * element by element, to the measurement that pine_encode_with_wr_joint_rand_seed gives with that seed. Rules 1 to 6,
+ * 19, 7 (rows 2 to 6), 8 and 17, 9, 21, 10, 18, 11 or 20. By 18, 11 or 20 other seeds may do. */
+PINE_MUST_USE PineAnswer pine_cut(PineParam param,
+                                  const double *gradient, size_t gradient_len,
+                                  const uint8_t *nonce, size_t nonce_len,
+                                  const uint8_t *seeds, size_t seeds_len,
+                                  uint64_t *leader, size_t leader_len,
+                                  uint64_t *helper, size_t helper_len,
+                                  uint8_t *given, size_t given_len);
+
+/* The sampler by which pine_cut makes the helper's share, over a stream that is lent (row 1, 8 * (encoded_input_len +
+ * PINE_MORE_DRAWS) bytes): its values, 8 bytes each, low byte first, those not below p being skipped, fill the share
+ * (row 2, encoded_input_len; written); what follows the one that completes it has no say. Rules 1 to 6, 19, 7, 18. */
+PINE_MUST_USE PineAnswer pine_sample(PineParam param,
+                                     const uint8_t *stream, size_t stream_len,
+                                     uint64_t *share, size_t share_len);
 
 /* ---- the circuits, on a full vector: a measurement or a share of one, then its results
  *

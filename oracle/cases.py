@@ -21,6 +21,7 @@ import random
 
 import aggregates
 import circuits
+import cuts
 import files
 import load
 import multiplier
@@ -32,8 +33,8 @@ import test_rule
 import true_length
 from common import BAD, NONE, OK, TOP, Case, below
 
-KINDS = {**singles.KINDS, **reports.KINDS, **seeds.KINDS, **circuits.KINDS, **parts.KINDS, **aggregates.KINDS,
-         **multiplier.KINDS, **test_rule.KINDS, **true_length.KINDS, **load.KINDS, **files.KINDS}
+KINDS = {**singles.KINDS, **reports.KINDS, **seeds.KINDS, **cuts.KINDS, **circuits.KINDS, **parts.KINDS,
+         **aggregates.KINDS, **multiplier.KINDS, **test_rule.KINDS, **true_length.KINDS, **load.KINDS, **files.KINDS}
 
 
 # Malformed lines, and lines without an answer
@@ -42,7 +43,7 @@ NONSENSE = ("-1", "-", "x", "1x", "x1", "1.0", "1_0", "1,0", "1e+3", "NaN", "inf
 NOT_DECIMAL = ("a", "ff", "1f", "0x1")
 
 # The word after the seven inputs is a count.
-COUNTED = ("merge", "accumulate", "aggregate", "unshard", "encode", "wrtests", *seeds.KINDS, *aggregates.TAKING,
+COUNTED = ("merge", "accumulate", "aggregate", "unshard", "encode", "wrtests", *seeds.KINDS, "cut", *aggregates.TAKING,
            *parts.KINDS)
 
 

@@ -8,6 +8,7 @@ import itertools
 
 import aggregates
 import circuits
+import cuts
 import parts
 import reports
 import seeds
@@ -15,6 +16,7 @@ import singles
 from aggregates import ROW, TAKING, adding, aggregate, long_rows, unshard
 from circuits import PLAIN, RANDOM, valid, valideq
 from common import BROKEN, LIMITS, P, RUST, TOP, Case, Inputs, Kind, Later, below, changed, sizes, steps, within
+from cuts import FIVE, NONCE, cut
 from parts import ENDS, part
 from reports import NAN, draw_fixed, encode, full_vector, row, wrtests
 from seeds import SEED, encodeseed, wrtestsseed
@@ -34,7 +36,7 @@ def prefixed(later, case):
 # Drawn
 
 ALONE = ("coord", "decode")
-DRAWN = {**singles.KINDS, **reports.KINDS, **seeds.KINDS, **circuits.KINDS, **parts.KINDS, **aggregates.KINDS}
+DRAWN = {**singles.KINDS, **reports.KINDS, **seeds.KINDS, **cuts.KINDS, **circuits.KINDS, **parts.KINDS, **aggregates.KINDS}
 
 
 def number(rng):
@@ -78,6 +80,7 @@ def of_every_kind(inputs, fits, more=0):
     seed = (SEED + b"\0")[:len(SEED) + more]
     yield encodeseed(inputs, row(*NUMBERS), seed, (size.measurement, fits.T))
     yield wrtestsseed(inputs, [y % P for y in NUMBERS], seed)
+    yield cut(inputs, row(*NUMBERS), NONCE, (FIVE + b"\0")[:len(FIVE) + more])
     yield valid(inputs, 1, full, RANDOM)
     yield valideq(inputs, 1, full)
     yield from (part(kind, inputs, full) for kind in ENDS)

@@ -31,26 +31,30 @@ def constants():
     return [sum(bits[(j + 7 * i) % 255] << (2**j - 1) for j in range(7)) for i in range(24)]
 
 
-OFFSETS = offsets()
 CONSTANTS = constants()[-12:]
+
+# Lane A[x, y] is number x + 5 y. Of each: by how many places rho moves it, and where pi puts it; the two that chi takes.
+LANES = [(x, y) for y in range(5) for x in range(5)]
+MOVES = [(offsets()[x, y], y + 5 * ((2 * x + 3 * y) % 5)) for x, y in LANES]
+BESIDE = [((x + 1) % 5 + 5 * y, (x + 2) % 5 + 5 * y) for x, y in LANES]
 
 
 def permuted(a):
-    """Keccak-p[1600, 12] of the lanes {(x, y): lane}."""
+    """Keccak-p[1600, 12] of 25 lanes."""
     for constant in CONSTANTS:
-        c = [a[x, 0] ^ a[x, 1] ^ a[x, 2] ^ a[x, 3] ^ a[x, 4] for x in range(5)]
-        a = {(x, y): a[x, y] ^ c[x - 1] ^ rotl(c[(x + 1) % 5], 1) for x, y in a}
-        a = {(x, y): rotl(a[x, y], OFFSETS[x, y]) for x, y in a}
-        a = {(x, y): a[(x + 3 * y) % 5, x] for x, y in a}
-        a = {(x, y): a[x, y] ^ (~a[(x + 1) % 5, y] & LANE & a[(x + 2) % 5, y]) for x, y in a}
-        a[0, 0] ^= constant
+        c = [a[x] ^ a[x + 5] ^ a[x + 10] ^ a[x + 15] ^ a[x + 20] for x in range(5)]
+        d = [c[x - 1] ^ rotl(c[(x + 1) % 5], 1) for x in range(5)]
+        b = [0] * 25
+        for i, (places, to) in enumerate(MOVES):
+            b[to] = rotl(a[i] ^ d[i % 5], places)
+        a = [b[i] ^ (~b[one] & b[two]) for i, (one, two) in enumerate(BESIDE)]
+        a[0] ^= constant
     return a
 
 
 def permuted_bytes(state):
-    lanes = {(x, y): int.from_bytes(state[8 * (x + 5 * y) :][:8], "little") for x in range(5) for y in range(5)}
-    lanes = permuted(lanes)
-    return b"".join(lanes[x, y].to_bytes(8, "little") for y in range(5) for x in range(5))
+    lanes = permuted([int.from_bytes(state[i:i + 8], "little") for i in range(0, 200, 8)])
+    return b"".join(lane.to_bytes(8, "little") for lane in lanes)
 
 
 def xored(state, block):

@@ -1,7 +1,7 @@
-/* Reports from end to end: a client encodes a gradient and cuts it in two; each of two servers runs the
- * wraparound tests on its share and adds it to its aggregate; the two aggregates together give the sum of
- * the gradients. Then a report is withdrawn: each server takes out the share that it added. C11, and C++ as
- * well.
+/* Reports from end to end: a client makes its report, which is a gradient encoded and cut in two; each of two
+ * servers, the leader and the helper, runs the wraparound tests on its share and adds it to its aggregate; the
+ * two aggregates together give the sum of the gradients. Then a report is withdrawn: each server takes out the
+ * share that it added. C11, and C++ as well.
  *
  * Before it is added, a report is checked on the sum of its two shares. That is for show: whoever adds them up sees
  * the gradient. Servers that must not see it need an FLP proof, which this library leaves to others. */
@@ -36,8 +36,8 @@ static void *row(uint64_t len, size_t size) {
     return r;
 }
 
-/* A stand-in. The seed, the cut and the joint randomness of a real report need a cryptographic source: what the
- * servers learn of a gradient, and what a client can feign, depends on it (README.md, "What it is not"). */
+/* A stand-in. The seeds and the joint randomness of a real report need a cryptographic source: what the servers
+ * learn of a gradient, and what a client can feign, depends on it (README.md, "What it is not"). */
 static uint64_t state = UINT64_C(0x9e3779b97f4a7c15);
 
 static uint64_t next(void) {
@@ -45,6 +45,12 @@ static uint64_t next(void) {
     state ^= state >> 7;
     state ^= state << 17;
     return state;
+}
+
+static void next_bytes(uint8_t *bytes, size_t len) {
+    for (size_t i = 0; i < len; i++) {
+        bytes[i] = (uint8_t)(next() >> 56);
+    }
 }
 
 static uint64_t next_element(void) {
@@ -55,13 +61,9 @@ static uint64_t next_element(void) {
     return x;
 }
 
-/* a - b and a + b modulo p */
-static uint64_t sub(uint64_t a, uint64_t b) {
-    return a >= b ? a - b : PINE_FIELD_MODULUS - (b - a);
-}
-
+/* a + b modulo p */
 static uint64_t add(uint64_t a, uint64_t b) {
-    return sub(a, b == 0 ? 0 : PINE_FIELD_MODULUS - b);
+    return a >= PINE_FIELD_MODULUS - b ? a - (PINE_FIELD_MODULUS - b) : a + b;
 }
 
 /* The two aggregates added, as doubles. */
@@ -89,8 +91,9 @@ int main(void) {
     const size_t input_len = (size_t)derived.pine.input_len;
     const size_t tests = (size_t)derived.pine.num_wr_tests;
 
-    uint8_t seed[PINE_SEED_LEN];
-    uint64_t *full = (uint64_t *)row(input_len, 8); /* a measurement, then its results */
+    uint8_t nonce[PINE_NONCE_LEN], seeds[PINE_CUT_SEEDS_LEN], joint_rand_seeds[PINE_JOINT_RAND_SEEDS_LEN];
+    uint64_t *full = (uint64_t *)row(input_len, 8);
+    /* the leader's and the helper's; a full share is a share of the measurement, then its results */
     uint64_t *share[2], *aggregate[2], *withdrawn[2];
     for (int s = 0; s < 2; s++) {
         share[s] = (uint64_t *)row(input_len, 8);
@@ -101,27 +104,22 @@ int main(void) {
 
     for (int report = 0; report < REPORTS; report++) {
         /* the client */
-        for (size_t i = 0; i < sizeof seed; i++) {
-            seed[i] = (uint8_t)(next() >> 56);
-        }
-        PineAnswer answer = pine_encode_with_wr_joint_rand_seed(
-            param, gradients[report], DIMENSION, seed, sizeof seed, full, encoded_len,
-            full + encoded_len, tests);
-        if (answer.number == PINE_WR_TEST) {
-            /* rare: a test misses with this seed; another seed may do. Clients who let a test miss set
+        next_bytes(nonce, sizeof nonce);
+        next_bytes(seeds, sizeof seeds);
+        PineAnswer answer = pine_cut(param, gradients[report], DIMENSION, nonce, sizeof nonce, seeds, sizeof seeds,
+                                     share[0], encoded_len, share[1], encoded_len,
+                                     joint_rand_seeds, sizeof joint_rand_seeds);
+        if (answer.number == PINE_WR_TEST || answer.number == PINE_DRAWS) {
+            /* rare: a test misses with these seeds; others may do. Clients who let a test miss set
              * num_wr_successes below num_wr_tests and param.wr_test_rule to PINE_ENOUGH_TESTS */
             report--;
             continue;
         }
-        must(answer, "encode_with_wr_joint_rand_seed");
-        for (size_t i = 0; i < encoded_len; i++) {
-            share[0][i] = next_element();
-            share[1][i] = sub(full[i], share[0][i]);
-        }
+        must(answer, "cut");
 
-        /* each server, with the report's seed */
+        /* each server, with the seed of the report's tests, which is the first */
         for (int s = 0; s < 2; s++) {
-            must(pine_run_wr_tests_seed(param, share[s], d, seed, sizeof seed,
+            must(pine_run_wr_tests_seed(param, share[s], d, joint_rand_seeds, PINE_SEED_LEN,
                                         share[s] + encoded_len, tests),
                  "run_wr_tests_seed");
         }

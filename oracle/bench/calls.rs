@@ -6,17 +6,22 @@ use crate::{
     stream::{give, Given},
     way, words, Random, Row, Title, Way, Ways, FRAC_BITS, SCALE,
 };
-use pine_oracle::pine::{
-    opened::{derived, elements, new, pine_vec, run_wr_tests, to_f64, to_field},
-    vdaf::PineVec,
-    Pine64,
+use pine_oracle::{
+    cut::{up_to_proofs, UpToProofs},
+    fields::pine,
+    pine::{
+        opened::{derived, elements, new, pine_vec, run_wr_tests, to_f64, to_field},
+        vdaf::PineVec,
+        Pine64,
+    },
+    xofs::WatchedXof,
 };
 use prio_draft09::{
     codec::Decode,
     field::Field64,
     flp::{FlpError, Gadget, Type},
     vdaf::{
-        xof::{Seed, Xof, XofTurboShake128},
+        xof::{IntoFieldVec, Seed, Xof, XofTurboShake128},
         Aggregatable, Aggregator, Collector,
     },
 };
@@ -109,6 +114,22 @@ extern "C" {
         results: *mut u64,
         results_len: usize,
     ) -> Answer;
+    fn pine_cut(
+        param: Param,
+        gradient: *const f64,
+        gradient_len: usize,
+        nonce: *const u8,
+        nonce_len: usize,
+        seeds: *const u8,
+        seeds_len: usize,
+        leader: *mut u64,
+        leader_len: usize,
+        helper: *mut u64,
+        helper_len: usize,
+        given: *mut u8,
+        given_len: usize,
+    ) -> Answer;
+    fn pine_sample(param: Param, stream: *const u8, stream_len: usize, share: *mut u64, share_len: usize) -> Answer;
     fn pine_valid(
         param: Param,
         num_shares: u64,
@@ -202,13 +223,17 @@ fn seed() -> Seed<16> {
     seed_of(&[7; 16])
 }
 
-/// By hand, the whole stream of a seed comes from the original's XOF.
+/// By hand, what a seed makes comes from the original's XOF.
+fn xof(seed: &[u8], usage: u8, binder: &[u8], len: usize) -> Vec<u8> {
+    let dst = [1, 0xff, 0xff, 0xff, 0xff, 0, usage];
+    let mut output = vec![0; len];
+    XofTurboShake128::seed_stream(&seed_of(seed), &dst, binder).fill_bytes(&mut output);
+    output
+}
+
 fn stream_of(seed: &[u8], param: Param) -> Vec<u8> {
-    const DST: [u8; 7] = [1, 0xff, 0xff, 0xff, 0xff, 0, 8];
     let [_, d, _, _, _, t, _] = param.0.map(|x| x as usize);
-    let mut stream = vec![0; d.div_ceil(4) * t];
-    XofTurboShake128::seed_stream(&seed_of(seed), &DST, &[]).fill_bytes(&mut stream);
-    stream
+    xof(seed, 8, &[], d.div_ceil(4) * t)
 }
 
 // Encoding and the tests
@@ -453,6 +478,138 @@ fn tests_seed(d: usize, t: usize) -> Row {
             original: Some(original),
             ours: way(Tests::clone, tests_seed_ours, test_results),
             by_hand: Some(way(Tests::clone, tests_seed_by_hand, test_results)),
+        },
+    )
+}
+
+// A report, cut in two
+
+#[derive(Clone)]
+struct Cutting {
+    param: Param,
+    gradient: Vec<f64>,
+    nonce: [u8; 16],
+    seeds: [[u8; 16]; 5],
+    leader: Vec<u64>,
+    helper: Vec<u64>,
+    given: [u8; 32],
+}
+
+fn cutting(random: &mut Random, param: Param) -> Cutting {
+    let [_, d, _, _, _, t, _] = param.0.map(|x| x as usize);
+    let len = d + checked_len(t);
+    let mut bytes = || random.bytes(16).try_into().unwrap();
+    let (nonce, seeds) = (bytes(), [0; 5].map(|_| bytes()));
+    let gradient = random.gradient(d);
+    Cutting { param, gradient, nonce, seeds, leader: vec![1; len], helper: vec![1; len], given: [1; 32] }
+}
+
+fn cut_ours(w: &mut Cutting) -> Answer {
+    let seeds = w.seeds.as_flattened();
+    unsafe {
+        pine_cut(
+            w.param,
+            w.gradient.as_ptr(),
+            w.gradient.len(),
+            w.nonce.as_ptr(),
+            w.nonce.len(),
+            seeds.as_ptr(),
+            seeds.len(),
+            w.leader.as_mut_ptr(),
+            w.leader.len(),
+            w.helper.as_mut_ptr(),
+            w.helper.len(),
+            w.given.as_mut_ptr(),
+            w.given.len(),
+        )
+    }
+}
+
+fn cut_by_hand(w: &mut Cutting) -> Answer {
+    let brought = by_hand::Brought { gradient: &w.gradient, nonce: &w.nonce, seeds: w.seeds.as_flattened() };
+    answer(&by_hand::cut(w.param, brought, &mut w.leader, &mut w.helper, &mut w.given, xof))
+}
+
+fn both_shares(leader: &[u64], helper: &[u64], given: &[u8]) -> Vec<u64> {
+    [leader, helper, &given.iter().map(|x| u64::from(*x)).collect::<Vec<u64>>()].concat()
+}
+
+fn was_cut(w: Cutting, answer: Answer) -> Vec<u64> {
+    accepted(answer);
+    both_shares(&w.leader, &w.helper, &w.given)
+}
+
+/// What the original's drops at the proofs is made again, and not timed.
+fn was_cut_to_proofs(w: Cutting) -> Vec<u64> {
+    let pine = pine::<Field64, UpToProofs<WatchedXof>>(w.param.0).unwrap();
+    let made = pine_oracle::cut::cut(&pine, &w.gradient, &w.nonce, w.seeds).unwrap();
+    let given = [made.wr_joint_rand_seed, made.vf_joint_rand_seed].concat();
+    both_shares(&words(&made.leader), &words(&made.helper), &given)
+}
+
+fn cut(d: usize, t: usize) -> Row {
+    let original = way(
+        |s: &Cutting| (pine::<Field64, UpToProofs>(s.param.0).unwrap(), s.clone()),
+        |(pine, s)| up_to_proofs(pine, &s.gradient, &s.nonce, s.seeds).unwrap(),
+        |(_, s), ()| was_cut_to_proofs(s),
+    );
+    let bytes = 8 * d + 16 + 80 + 2 * 8 * (d + checked_len(t)) + 32;
+    row(
+        Title { tests: Some(t), ..title("cut", d, "coordinate", bytes) },
+        move |r| cutting(r, param(d, (1, 1), t)),
+        Ways {
+            original: Some(original),
+            ours: way(Cutting::clone, cut_ours, was_cut),
+            by_hand: Some(way(Cutting::clone, cut_by_hand, was_cut)),
+        },
+    )
+}
+
+#[derive(Clone)]
+struct Sampling {
+    param: Param,
+    stream: Vec<u8>,
+    share: Vec<u64>,
+}
+
+fn sampling(random: &mut Random, param: Param) -> Sampling {
+    let [_, d, _, _, _, t, _] = param.0.map(|x| x as usize);
+    let len = d + checked_len(t);
+    Sampling { param, stream: random.bytes(8 * (len + 64)), share: vec![1; len] }
+}
+
+fn sample_ours(w: &mut Sampling) -> Answer {
+    unsafe { pine_sample(w.param, w.stream.as_ptr(), w.stream.len(), w.share.as_mut_ptr(), w.share.len()) }
+}
+
+fn sample_by_hand(w: &mut Sampling) -> Answer {
+    answer(&by_hand::sample(w.param, &w.stream, &mut w.share))
+}
+
+fn sample(d: usize, t: usize) -> Row {
+    let sampled = |w: Sampling, answer: Answer| {
+        accepted(answer);
+        w.share
+    };
+    let len = d + checked_len(t);
+    // it asks for 32 values at a time; as good as none is skipped
+    let ready = |s: &Sampling| {
+        give(&s.stream[..8 * s.share.len().next_multiple_of(32)]);
+        s.share.len()
+    };
+    let original = way(
+        ready,
+        |len| Given::seed_stream(&seed(), &[], &[]).into_field_vec::<Field64>(*len),
+        |_, share| words(&share),
+    );
+    let bytes = 8 * (len + 64) + 8 * len;
+    row(
+        Title { tests: Some(t), count: len, ..title("sample", d, "element", bytes) },
+        move |r| sampling(r, param(d, (1, 1), t)),
+        Ways {
+            original: Some(original),
+            ours: way(Sampling::clone, sample_ours, sampled),
+            by_hand: Some(way(Sampling::clone, sample_by_hand, sampled)),
         },
     )
 }
@@ -817,7 +974,10 @@ fn small(d: usize) -> Vec<Row> {
 }
 
 fn of_seed(d: usize) -> Vec<Row> {
-    SEED_TESTS.into_iter().flat_map(|t| [encode_seed(d, t), tests_seed(d, t)]).collect()
+    let mut rows: Vec<Row> =
+        SEED_TESTS.into_iter().flat_map(|t| [encode_seed(d, t), tests_seed(d, t), cut(d, t)]).collect();
+    rows.push(sample(d, USUAL_TESTS));
+    rows
 }
 
 pub fn table() -> Vec<Row> {

@@ -19,6 +19,8 @@ TABLES = (
     ("encode, seed",),
     ("tests",),
     ("tests, seed",),
+    ("cut",),
+    ("sample",),
     ("valid",),
     ("valid_sq_norm_equal",),
     ("gradient_part", "checked_part", "results_part"),
@@ -29,7 +31,8 @@ TABLES = (
 )
 
 # the rows that others refer to
-HEADLINES = ("encode", "encode, seed", "tests", "tests, seed", "valid", "valid_sq_norm_equal", "accumulate", "unshard")
+HEADLINES = ("encode", "encode, seed", "tests", "tests, seed", "cut", "sample", "valid", "valid_sq_norm_equal",
+             "accumulate", "unshard")
 HEADLINE_LENGTHS = (1000, 65536)
 USUAL_TESTS = 100
 

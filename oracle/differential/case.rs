@@ -13,6 +13,8 @@ pub enum Call {
     EncodeSeed,
     RunWrTests,
     RunWrTestsSeed,
+    Cut,
+    Sample,
     Valid,
     ValidSqNormEqual,
     GradientPart,
@@ -26,7 +28,7 @@ pub enum Call {
     Unshard,
 }
 
-pub const CALLS: [Call; 19] = [
+pub const CALLS: [Call; 21] = [
     Call::CheckParam,
     Call::Derive,
     Call::F64ToField,
@@ -35,6 +37,8 @@ pub const CALLS: [Call; 19] = [
     Call::EncodeSeed,
     Call::RunWrTests,
     Call::RunWrTestsSeed,
+    Call::Cut,
+    Call::Sample,
     Call::Valid,
     Call::ValidSqNormEqual,
     Call::GradientPart,
@@ -60,6 +64,8 @@ impl Call {
             Call::EncodeSeed => "encode_with_wr_joint_rand_seed",
             Call::RunWrTests => "run_wr_tests",
             Call::RunWrTestsSeed => "run_wr_tests_seed",
+            Call::Cut => "cut",
+            Call::Sample => "sample",
             Call::Valid => "valid",
             Call::ValidSqNormEqual => "valid_sq_norm_equal",
             Call::GradientPart => "gradient_part",
@@ -106,12 +112,14 @@ pub enum Row {
     Aggregate(Vec<u64>),
     /// Written; what it holds before the call.
     Written(Vec<u64>),
+    /// The same, of bytes.
+    WrittenBytes(Vec<u8>),
 }
 
 impl Row {
     pub fn len(&self) -> usize {
         match self {
-            Row::Bytes(bytes) => bytes.len(),
+            Row::Bytes(bytes) | Row::WrittenBytes(bytes) => bytes.len(),
             Row::Doubles(row) | Row::Elements(row) | Row::Aggregate(row) | Row::Written(row) => row.len(),
         }
     }
@@ -119,7 +127,7 @@ impl Row {
     /// What it holds; not for bytes.
     pub fn words(&self) -> &[u64] {
         match self {
-            Row::Bytes(_) => &[],
+            Row::Bytes(_) | Row::WrittenBytes(_) => &[],
             Row::Doubles(row) | Row::Elements(row) | Row::Aggregate(row) | Row::Written(row) => row,
         }
     }
@@ -133,7 +141,12 @@ impl Row {
     }
 
     pub fn is_written(&self) -> bool {
-        matches!(self, Row::Aggregate(_) | Row::Written(_))
+        matches!(self, Row::Aggregate(_)) || self.is_lent()
+    }
+
+    /// Whether it is only written.
+    pub fn is_lent(&self) -> bool {
+        matches!(self, Row::Written(_) | Row::WrittenBytes(_))
     }
 }
 
@@ -161,7 +174,7 @@ fn write_row(to: &mut Formatter, row: &Row) -> Result {
             write!(to, " ")?;
             bytes.iter().try_for_each(|x| write!(to, "{x:02x}"))
         }
-        Row::Written(_) => Ok(()),
+        Row::Written(_) | Row::WrittenBytes(_) => Ok(()),
     }
 }
 
@@ -186,12 +199,8 @@ impl Display for Case {
         if matches!(self.call, Call::ValidSqNormEqual | Call::EmptyAggregate) {
             write!(to, " 0")?;
         }
-        let lent: Vec<String> = self
-            .rows
-            .iter()
-            .filter(|row| matches!(row, Row::Written(_)))
-            .map(|row| format!(" {}", row.len()))
-            .collect();
+        let lent: Vec<String> =
+            self.rows.iter().filter(|row| row.is_lent()).map(|row| format!(" {}", row.len())).collect();
         if lent.is_empty() {
             return Ok(());
         }

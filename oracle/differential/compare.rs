@@ -19,6 +19,8 @@ pub struct Same {
     pub unchanged: usize,
     /// The rows that an accepted call wrote.
     pub written: Vec<Vec<u64>>,
+    /// Whether the original's servers prepared the report.
+    pub prepared: bool,
 }
 
 type Outcome = Result<(), String>;
@@ -47,7 +49,7 @@ fn len_of(rows: &[(usize, &Lent)]) -> usize {
 fn refused(answer: Answer, given: &Given, rows: &[(usize, &Lent)]) -> Result<Same, String> {
     equal("the values beside a refusal", &given.values, &vec![0; given.values.len()])?;
     unchanged(rows)?;
-    Ok(Same { answer, compared: 0, unchanged: len_of(rows), written: vec![] })
+    Ok(Same { answer, compared: 0, unchanged: len_of(rows), written: vec![], prepared: false })
 }
 
 fn accepted(case: &Case, given: &Given, rows: &[(usize, &Lent)]) -> Result<Same, String> {
@@ -56,14 +58,14 @@ fn accepted(case: &Case, given: &Given, rows: &[(usize, &Lent)]) -> Result<Same,
     let (written, read): (Vec<_>, Vec<_>) = rows.iter().partition(|(at, _)| case.rows[at - 1].is_written());
     assert_eq!(written.len(), original.rows.len());
     for ((at, row), wanted) in written.iter().zip(&original.rows) {
-        equal(&format!("row {at}"), row.now(), wanted)?;
+        equal(&format!("row {at}"), &row.now(), wanted)?;
         if !row.has_its_guards() {
             return Err(format!("the memory beside row {at} is changed"));
         }
     }
     unchanged(&read)?;
     let (compared, unchanged) = (given.values.len() + len_of(&written), len_of(&read));
-    Ok(Same { answer: ACCEPTED, compared, unchanged, written: original.rows })
+    Ok(Same { answer: ACCEPTED, compared, unchanged, written: original.rows, prepared: false })
 }
 
 /// What was the same, or both answers and the first difference. The rows lent hold what the case's do.
@@ -85,6 +87,12 @@ fn lend(random: &mut Random, case: &Case) -> Vec<Lent> {
     case.rows.iter().map(|row| Lent::new(random, row)).collect()
 }
 
+/// One in so many reports that were cut goes through the original's proofs and prepare.
+const PREPARED: u64 = 8;
+
+/// The longest gradient of these.
+const MOST: u64 = 300;
+
 /// On a report that encoding wrote.
 fn circuits_give_zero(random: &mut Random, param: Param, written: &[Vec<u64>]) -> Outcome {
     let full = || Row::Elements(written.concat());
@@ -99,9 +107,12 @@ fn circuits_give_zero(random: &mut Random, param: Param, written: &[Vec<u64>]) -
 }
 
 pub fn compare(random: &mut Random, case: &Case) -> Result<Same, String> {
-    let same = compare_on(&mut lend(random, case), case)?;
+    let mut same = compare_on(&mut lend(random, case), case)?;
     if matches!(case.call, Call::Encode | Call::EncodeSeed) && same.answer == ACCEPTED {
         circuits_give_zero(random, case.param, &same.written)?;
+    }
+    if case.call == Call::Cut && same.answer == ACCEPTED && case.param.d <= MOST && random.once_in(PREPARED) {
+        same.prepared = original::prepare(case, &same.written)?;
     }
     Ok(same)
 }

@@ -5,7 +5,7 @@ use crate::{
     compare::Same,
 };
 
-const RULES: [usize; 17] = [1, 2, 3, 4, 5, 6, 7, 8, 9, 10, 11, 12, 13, 17, 19, 20, 21];
+const RULES: [usize; 18] = [1, 2, 3, 4, 5, 6, 7, 8, 9, 10, 11, 12, 13, 17, 18, 19, 20, 21];
 
 #[derive(Clone, Copy, Default)]
 struct Count {
@@ -13,6 +13,7 @@ struct Count {
     answers: [u64; 22],
     compared: u64,
     unchanged: u64,
+    prepared: u64,
 }
 
 impl Count {
@@ -20,6 +21,7 @@ impl Count {
         self.answers.iter_mut().zip(&other.answers).for_each(|(x, y)| *x += y);
         self.compared += other.compared;
         self.unchanged += other.unchanged;
+        self.prepared += other.prepared;
     }
 
     fn calls(&self) -> u64 {
@@ -45,6 +47,7 @@ pub struct Counts([Count; CALLS.len()]);
 impl Counts {
     pub fn add(&mut self, call: Call, same: &Same) {
         let mut one = Count { compared: same.compared as u64, unchanged: same.unchanged as u64, ..Count::default() };
+        one.prepared = same.prepared.into();
         one.answers[same.answer.number as usize] = 1;
         self.0[call as usize].add(&one);
     }
@@ -64,6 +67,12 @@ impl Counts {
             println!("| `{}` | {} |", call.name(), self.0[call as usize].cells().join(" | "));
         }
         println!("| all | {} |", all.cells().join(" | "));
+        if all.prepared > 0 {
+            println!(
+                "\n{} of the reports cut had their proofs made and accepted by the original",
+                grouped(all.prepared)
+            );
+        }
     }
 }
 

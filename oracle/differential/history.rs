@@ -117,7 +117,7 @@ impl History {
     pub fn is_tallied(&self) -> Result<(), String> {
         for ((at, row), tally) in self.aggregates().zip(&self.tallies) {
             let shares = tally.iter().map(|(share, number)| (*number, &self.calls.shares[*share][..]));
-            equal(&format!("aggregate {at}, by its tally"), row.now(), &whole::combined(row.len, shares))?;
+            equal(&format!("aggregate {at}, by its tally"), &row.now(), &whole::combined(row.len, shares))?;
         }
         Ok(())
     }

@@ -7,7 +7,13 @@ pub struct Lent {
     before: Vec<u64>,
     /// In bytes.
     start: usize,
+    /// The bytes of an element.
+    width: usize,
     pub len: usize,
+}
+
+fn bytes_of(memory: &[u64]) -> Vec<u8> {
+    memory.iter().flat_map(|x| x.to_le_bytes()).collect()
 }
 
 impl Lent {
@@ -16,7 +22,7 @@ impl Lent {
         let start = 8 * memory.len();
         memory.extend_from_slice(row);
         memory.extend(guard(random));
-        Lent { before: memory.clone(), memory, start, len: row.len() }
+        Lent { before: memory.clone(), memory, start, width: 8, len: row.len() }
     }
 
     /// At any byte.
@@ -27,12 +33,12 @@ impl Lent {
         let rest = random.bytes(8 + (8 - bytes.len() % 8));
         bytes.extend(rest);
         let memory: Vec<u64> = bytes.chunks_exact(8).map(|x| u64::from_le_bytes(x.try_into().unwrap())).collect();
-        Lent { before: memory.clone(), memory, start, len: row.len() }
+        Lent { before: memory.clone(), memory, start, width: 1, len: row.len() }
     }
 
     pub fn new(random: &mut Random, row: &Row) -> Lent {
         match row {
-            Row::Bytes(bytes) => Lent::of_bytes(random, bytes),
+            Row::Bytes(bytes) | Row::WrittenBytes(bytes) => Lent::of_bytes(random, bytes),
             Row::Doubles(row) | Row::Elements(row) | Row::Aggregate(row) | Row::Written(row) => {
                 Lent::of_words(random, row)
             }
@@ -44,9 +50,12 @@ impl Lent {
         unsafe { self.memory.as_mut_ptr().cast::<u8>().add(self.start).cast() }
     }
 
-    /// The row as it is now; not for bytes.
-    pub fn now(&self) -> &[u64] {
-        &self.memory[self.start / 8..][..self.len]
+    /// The elements of the row as it is now.
+    pub fn now(&self) -> Vec<u64> {
+        match self.width {
+            8 => self.memory[self.start / 8..][..self.len].to_vec(),
+            _ => bytes_of(&self.memory)[self.start..][..self.len].iter().map(|x| u64::from(*x)).collect(),
+        }
     }
 
     /// From here on the row is to stay as it is now.
@@ -59,10 +68,11 @@ impl Lent {
         self.memory == self.before
     }
 
-    /// Whether the guards alone are; not for bytes.
+    /// Whether the guards alone are.
     pub fn has_its_guards(&self) -> bool {
-        let (first, end) = (self.start / 8, self.start / 8 + self.len);
-        self.memory[..first] == self.before[..first] && self.memory[end..] == self.before[end..]
+        let (now, before) = (bytes_of(&self.memory), bytes_of(&self.before));
+        let end = self.start + self.width * self.len;
+        now[..self.start] == before[..self.start] && now[end..] == before[end..]
     }
 }
 

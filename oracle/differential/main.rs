@@ -19,6 +19,7 @@ mod param;
 mod random;
 mod rules;
 mod seed;
+mod shares;
 mod whole;
 
 use at_hand::profile;

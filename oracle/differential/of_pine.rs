@@ -1,13 +1,17 @@
 /// What the driver asks and cannot name from outside this module, called as it stands.
 pub mod opened {
-    use super::{vdaf::PineVec, *};
+    use super::{msg::InputShareFor, vdaf::PineVec, *};
     use prio_draft09::{
+        codec::Encode,
         flp::Type,
-        vdaf::xof::{Seed, Xof},
+        vdaf::{
+            xof::{Seed, Xof},
+            Aggregator, PrepareTransition,
+        },
     };
 
     /// For n, d, f, c, e, T and K, with another test bound than its own if one is given.
-    pub fn new(inputs: [u64; 7], bound: Option<u64>) -> Result<Pine64, VdafError> {
+    pub fn new<X>(inputs: [u64; 7], bound: Option<u64>) -> Result<Pine<Field64, X, 16>, VdafError> {
         let [norm_bound, dimension, frac_bits, chunk_len, chunk_len_sq_norm_equal, num_wr_tests, num_wr_successes] =
             inputs.map(|x| x as usize);
         let param = PineParam {
@@ -29,7 +33,7 @@ pub mod opened {
     }
 
     /// The bound, and what `Pine::new` derives from it.
-    fn set_bound(pine: &mut Pine64, bound: u64) {
+    fn set_bound<X>(pine: &mut Pine<Field64, X, 16>, bound: u64) {
         let t = &mut pine.flp;
         t.wr_test_bound = Field64::from(bound);
         t.wr_test_bits = bits(2 * bound - 1);
@@ -75,6 +79,30 @@ pub mod opened {
 
     pub fn run_wr_tests<X: Xof<16>>(pine: &Pine64, gradient: &[Field64], seed: &Seed<16>) -> Vec<Field64> {
         pine.flp.run_wr_tests::<X, 16>(gradient, seed)
+    }
+
+    /// Of a whole report with its proofs, after both servers' prepare has accepted it: the leader's share, both seeds of
+    /// the joint randomness as the servers found them, and both output shares.
+    #[allow(clippy::type_complexity)]
+    pub fn prepared(
+        pine: &Pine64,
+        gradient: &[f64],
+        nonce: &[u8; 16],
+        rand: [[u8; 16]; 7],
+    ) -> Result<(Vec<Field64>, Vec<u8>, [Vec<Field64>; 2]), VdafError> {
+        let (public, inputs) = pine.shard_with_rand(gradient, nonce, rand)?;
+        let InputShareFor::Leader { meas_share, .. } = &inputs[0].0 else {
+            panic!("the first input share is not the leader's");
+        };
+        let begin = |id: usize| pine.prepare_init(&[0; 16], id, &(), nonce, &public, &inputs[id]);
+        let [(leader, first), (helper, second)] = [begin(0)?, begin(1)?];
+        let prep = pine.prepare_shares_to_prepare_message(&(), [first, second])?;
+        let seeds = [&prep.wr_joint_rand_seed, &prep.vf_joint_rand_seed].map(|seed| seed.get_encoded().unwrap());
+        let end = |state| match pine.prepare_next(state, prep.clone())? {
+            PrepareTransition::Finish(share) => Ok::<_, VdafError>(share.0),
+            PrepareTransition::Continue(..) => panic!("prepare does not end"),
+        };
+        Ok((meas_share.clone(), seeds.concat(), [end(leader)?, end(helper)?]))
     }
 
     /// The gradient, the checked elements and the results, cut as `valid` does.

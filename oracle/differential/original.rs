@@ -1,21 +1,24 @@
 //! The same calls of the original. What docs/PINE.md refuses is not put to it. With another multiplier than its own it is
-//! given the test bound that the driver works out, and where tests missed, a stream with which they do not. A seed is put
-//! to it with its own XOF.
+//! given the test bound that the driver works out, and where tests missed, a stream with which they do not; a report that
+//! is cut with such tests the driver works out. A seed is put to it with its own XOF.
 
 use crate::{
     case::{Call, Case, Row},
     param::{Param, Sizes, STANDARD},
-    seed, whole,
+    seed::{self, SEED_LEN},
+    shares::Brought,
+    whole,
 };
 use pine_oracle::{
-    pine::{opened, Pine64},
-    xofs::{choose_stream, ChosenXof},
+    cut::{cut, UpToProofs},
+    pine::{opened, Pine, Pine64},
+    xofs::{choose_stream, ChosenXof, WatchedXof},
 };
 use prio_draft09::{
     field::Field64,
     flp::{FlpError, Gadget, Type},
     vdaf::{
-        xof::{Seed, XofTurboShake128},
+        xof::{IntoFieldVec, Seed, Xof, XofTurboShake128},
         Aggregatable, Aggregator, Collector,
     },
 };
@@ -125,6 +128,69 @@ fn encode_with_misses(pine: &Pine64, param: &Param, gradient: &[u64], tests: Tes
     Ok(given)
 }
 
+fn octets(bytes: &[u8]) -> Vec<u64> {
+    bytes.iter().map(|x| u64::from(*x)).collect()
+}
+
+/// Five or seven seeds.
+fn seeds_of<const MANY: usize>(bytes: &[u8]) -> [[u8; SEED_LEN]; MANY] {
+    std::array::from_fn(|i| bytes[SEED_LEN * i..][..SEED_LEN].try_into().unwrap())
+}
+
+fn doubles(gradient: &[u64]) -> Vec<f64> {
+    gradient.iter().map(|x| f64::from_bits(*x)).collect()
+}
+
+/// Of the original, but where a test missed.
+fn cut_with_misses(param: &Param, gradient: &[u64], brought: Brought) -> Outcome<Given> {
+    let (sizes, numbers) = (Sizes::of(param), whole::floors(gradient, param.f));
+    let stream = seed::stream(&brought.wr_seed(param, &numbers), sizes.stream);
+    if whole::in_range(&numbers, &stream, &sizes).any(|in_range| !in_range) {
+        let (leader, helper, seeds) = brought.cut(param, &numbers);
+        return rows(vec![leader, helper, octets(&seeds)]);
+    }
+    let pine: Pine<Field64, UpToProofs<WatchedXof>, 16> = opened::new(param.inputs(), bound(param))?;
+    let given = cut(&pine, &doubles(gradient), brought.nonce.try_into()?, seeds_of(brought.five))?;
+    let seeds = [given.wr_joint_rand_seed, given.vf_joint_rand_seed].concat();
+    rows(vec![words(&given.leader), words(&given.helper), octets(&seeds)])
+}
+
+/// It asks for 32 values at a time, and skips those that are added here.
+fn sample(stream: &[u8], len: usize) -> Outcome<Given> {
+    let mut stream = stream.to_vec();
+    stream.resize(stream.len().next_multiple_of(32 * 8) + 32 * 8, 0xff);
+    choose_stream(stream);
+    let share: Vec<Field64> = ChosenXof::seed_stream(&seed::seed(&[7; SEED_LEN]), &[], &[]).into_field_vec(len);
+    rows(vec![words(&share)])
+}
+
+/// The whole report, with its proofs: both servers accept it, and find the rows that the call wrote. Of a report with a
+/// test that missed the original makes none.
+pub fn prepare(case: &Case, written: &[Vec<u64>]) -> Result<bool, String> {
+    let [Row::Doubles(gradient), Row::Bytes(nonce), Row::Bytes(five), ..] = &case.rows[..] else {
+        unreachable!();
+    };
+    let (param, given) = (&case.param, written[2].iter().map(|x| *x as u8).collect::<Vec<u8>>());
+    let (sizes, numbers) = (Sizes::of(param), whole::floors(gradient, param.f));
+    let stream = seed::stream(&given[..SEED_LEN], sizes.stream);
+    if whole::in_range(&numbers, &stream, &sizes).any(|in_range| !in_range) {
+        return Ok(false);
+    }
+    let zeros = [0; SEED_LEN];
+    let [meas_share_seed_1, wr_blind_1, vf_blind_1, wr_blind_0, vf_blind_0] = seeds_of(five);
+    let rand = [meas_share_seed_1, zeros, wr_blind_1, vf_blind_1, wr_blind_0, vf_blind_0, zeros];
+    let pine = opened::new(param.inputs(), bound(param)).map_err(|error| error.to_string())?;
+    let nonce = nonce[..].try_into().unwrap();
+    let (leader, seeds, shares) = opened::prepared(&pine, &doubles(gradient), nonce, rand)
+        .map_err(|error| format!("the original's servers do not accept: {error}"))?;
+    let d = gradient.len();
+    let is_same = words(&leader) == written[0]
+        && seeds == given
+        && words(&shares[0]) == written[0][..d]
+        && words(&shares[1]) == written[1][..d];
+    is_same.then_some(true).ok_or("the original's servers find other rows".into())
+}
+
 #[derive(Debug)]
 struct Counted {
     inner: Box<dyn Gadget<Field64>>,
@@ -189,6 +255,11 @@ fn unshard(pine: &Pine64, left: &Row, right: &Row) -> Outcome<Given> {
     rows(vec![decoded.iter().map(|x| x.to_bits()).collect()])
 }
 
+/// The test bound, where it is not the original's.
+fn bound(param: &Param) -> Option<u64> {
+    (param.alpha != STANDARD).then(|| Sizes::of(param).test_bound as u64)
+}
+
 fn answer(case: &Case) -> Outcome<Given> {
     let (number, f) = (case.number, case.param.f);
     match case.call {
@@ -196,8 +267,7 @@ fn answer(case: &Case) -> Outcome<Given> {
         Call::FieldToF64 => return values(vec![opened::field_to_f64(Field64::from(number), f)?.to_bits()]),
         _ => (),
     }
-    let bound = (case.param.alpha != STANDARD).then(|| Sizes::of(&case.param).test_bound as u64);
-    let pine = opened::new(case.param.inputs(), bound)?;
+    let pine = opened::new(case.param.inputs(), bound(&case.param))?;
     match (case.call, &case.rows[..]) {
         (Call::CheckParam, []) => values(vec![]),
         (Call::Derive, []) => values(opened::record(&pine)),
@@ -213,6 +283,10 @@ fn answer(case: &Case) -> Outcome<Given> {
         (Call::RunWrTestsSeed, [gradient, Row::Bytes(seed), _]) => {
             rows(vec![run_wr_tests(&pine, gradient, Tests::Seed(seed))])
         }
+        (Call::Cut, [Row::Doubles(gradient), Row::Bytes(nonce), Row::Bytes(five), ..]) => {
+            cut_with_misses(&case.param, gradient, Brought { nonce, five })
+        }
+        (Call::Sample, [Row::Bytes(stream), share]) => sample(stream, share.len()),
         (Call::Valid, [full, joint_rand]) => circuit(&pine.flp, number, full, &fields(joint_rand)),
         (Call::ValidSqNormEqual, [full]) => circuit(&pine.flp_sq_norm_equal, number, full, &[]),
         (Call::GradientPart, [full]) => part(&pine, full, 0),

@@ -68,6 +68,22 @@ extern "C" {
         results: *mut u64,
         results_len: usize,
     ) -> Answer;
+    fn pine_cut(
+        param: Param,
+        gradient: *const f64,
+        gradient_len: usize,
+        nonce: *const u8,
+        nonce_len: usize,
+        seeds: *const u8,
+        seeds_len: usize,
+        leader: *mut u64,
+        leader_len: usize,
+        helper: *mut u64,
+        helper_len: usize,
+        given: *mut u8,
+        given_len: usize,
+    ) -> Answer;
+    fn pine_sample(param: Param, stream: *const u8, stream_len: usize, share: *mut u64, share_len: usize) -> Answer;
     fn pine_valid(
         param: Param,
         num_shares: u64,
@@ -121,6 +137,14 @@ fn unshard(param: Param, left: &mut Lent, right: &mut Lent, decoded: &mut Lent) 
     unsafe { pine_unshard(param, first, left.len, second, right.len, decoded.pointer(), decoded.len) }
 }
 
+fn cut(param: Param, [g, n, s]: [&mut Lent; 3], [l, h]: [&mut Lent; 2], given: &mut Lent) -> Answer {
+    let (gradient, nonce, seeds) = (g.pointer(), n.pointer(), s.pointer());
+    let (leader, helper, row) = (l.pointer(), h.pointer(), given.pointer());
+    unsafe {
+        pine_cut(param, gradient, g.len, nonce, n.len, seeds, s.len, leader, l.len, helper, h.len, row, given.len)
+    }
+}
+
 /// The numbers of PineDerived, then the test bound that its record stands for. What fills up the exponent's word is no
 /// output.
 fn derive(param: Param) -> Given {
@@ -152,6 +176,8 @@ pub fn call(case: &Case, rows: &mut [Lent]) -> Given {
                 let run = if case.call == Call::RunWrTests { pine_run_wr_tests } else { pine_run_wr_tests_seed };
                 run(p, g.pointer(), g.len, s.pointer(), s.len, r.pointer(), r.len).into()
             }
+            (Call::Cut, [g, n, s, l, h, v]) => cut(p, [g, n, s], [l, h], v).into(),
+            (Call::Sample, [s, x]) => pine_sample(p, s.pointer(), s.len, x.pointer(), x.len).into(),
             (Call::Valid, [x, r]) => pine_valid(p, number, x.pointer(), x.len, r.pointer(), r.len).into(),
             (Call::ValidSqNormEqual, [x]) => pine_valid_sq_norm_equal(p, number, x.pointer(), x.len).into(),
             (Call::GradientPart, [x]) => pine_gradient_part(p, x.pointer(), x.len).into(),

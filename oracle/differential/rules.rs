@@ -4,6 +4,7 @@ use crate::{
     case::{Call, Case, Row},
     param::{within, Param, Sizes, CHUNK, D, F, N, P, SHARES, T},
     seed::{self, SEED_LEN},
+    shares::{self, Brought, FIVE_LEN, GIVEN_LEN, NONCE_LEN},
     whole,
 };
 use std::fmt::{Display, Formatter};
@@ -59,6 +60,11 @@ fn derived(call: Call, param: &Param) -> Vec<Option<usize>> {
         Call::EncodeSeed => vec![None, Some(SEED_LEN), Some(sizes.measurement), t],
         Call::RunWrTests => vec![d, Some(sizes.stream), t],
         Call::RunWrTestsSeed => vec![d, Some(SEED_LEN), t],
+        Call::Cut => {
+            let [len, given] = [sizes.measurement, GIVEN_LEN].map(Some);
+            vec![None, Some(NONCE_LEN), Some(FIVE_LEN), len, len, given]
+        }
+        Call::Sample => vec![Some(shares::draws_len(&sizes)), Some(sizes.measurement)],
         Call::Valid => vec![Some(sizes.full), Some(3)],
         Call::ValidSqNormEqual | Call::GradientPart | Call::CheckedPart | Call::ResultsPart => vec![Some(sizes.full)],
         Call::EmptyAggregate => vec![d],
@@ -92,21 +98,42 @@ fn rule_on_tests(param: &Param, sizes: &Sizes, numbers: &[i128], stream: &[u8]) 
     rule_at(20, (found < param.k as usize).then_some(found))
 }
 
-fn rules_on_numbers(param: &Param, numbers: &[i128], stream: &[u8]) -> Option<Answer> {
-    let sizes = Sizes::of(param);
+/// Rules 21 and 10.
+fn rules_on_norm(param: &Param, sizes: &Sizes, numbers: &[i128]) -> Option<Answer> {
     let is_long = || whole::true_squared_norm(numbers).is_none_or(|norm| norm > sizes.bound);
     rule(21, param.bounds_true_norm() && is_long())
         .or_else(|| rule(10, u128::from(whole::squared_norm(numbers)) > sizes.bound))
-        .or_else(|| rule_on_tests(param, &sizes, numbers, stream))
+}
+
+fn rule_18(found: &[u64], sizes: &Sizes) -> Option<Answer> {
+    rule(18, found.len() < sizes.measurement)
+}
+
+/// Rule 18 of a cut, and the stream of its tests.
+fn drawn(case: &Case, numbers: &[i128], sizes: &Sizes) -> Result<Vec<u8>, Answer> {
+    match (case.call, &case.rows[..]) {
+        (Call::EncodeSeed, [_, Row::Bytes(bytes), ..]) => Ok(seed::stream(bytes, sizes.stream)),
+        (Call::Cut, [_, Row::Bytes(nonce), Row::Bytes(five), ..]) => {
+            let brought = Brought { nonce, five };
+            rule_18(&brought.helper(sizes), sizes).map_or(Ok(()), Err)?;
+            Ok(seed::stream(&brought.wr_seed(&case.param, numbers), sizes.stream))
+        }
+        (_, [_, Row::Bytes(bytes), ..]) => Ok(bytes.clone()),
+        _ => unreachable!(),
+    }
+}
+
+fn rules_on_numbers(case: &Case, numbers: &[i128]) -> Option<Answer> {
+    let sizes = Sizes::of(&case.param);
+    rules_on_norm(&case.param, &sizes, numbers).or_else(|| match drawn(case, numbers, &sizes) {
+        Ok(stream) => rule_on_tests(&case.param, &sizes, numbers, &stream),
+        Err(refusal) => Some(refusal),
+    })
 }
 
 fn rules_on_gradient(case: &Case) -> Option<Answer> {
-    let [Row::Doubles(gradient), Row::Bytes(bytes), ..] = &case.rows[..] else {
+    let [Row::Doubles(gradient), ..] = &case.rows[..] else {
         return None;
-    };
-    let stream = || match case.call {
-        Call::EncodeSeed => seed::stream(bytes, Sizes::of(&case.param).stream),
-        _ => bytes.clone(),
     };
     let coordinate = |(i, x): (usize, &u64)| {
         whole::coordinate_rule(*x, case.param.f).map(|number| Answer { number, place: i as u64 })
@@ -114,7 +141,15 @@ fn rules_on_gradient(case: &Case) -> Option<Answer> {
     let rule_8_or_17 = gradient.iter().enumerate().find_map(coordinate);
     rule_8_or_17
         .or_else(|| rule(9, gradient.len() as u64 != case.param.d))
-        .or_else(|| rules_on_numbers(&case.param, &whole::floors(gradient, case.param.f), &stream()))
+        .or_else(|| rules_on_numbers(case, &whole::floors(gradient, case.param.f)))
+}
+
+fn rule_on_sample(case: &Case) -> Option<Answer> {
+    let (Call::Sample, [Row::Bytes(stream), _]) = (case.call, &case.rows[..]) else {
+        return None;
+    };
+    let sizes = Sizes::of(&case.param);
+    rule_18(&shares::sampled(stream, sizes.measurement), &sizes)
 }
 
 pub fn answer(case: &Case) -> Answer {
@@ -126,7 +161,8 @@ pub fn answer(case: &Case) -> Answer {
             .or_else(|| rule_7(case))
             .or_else(|| rule_13(case))
             .or_else(|| rule_12(case))
-            .or_else(|| rules_on_gradient(case)),
+            .or_else(|| rules_on_gradient(case))
+            .or_else(|| rule_on_sample(case)),
     };
     refusal.unwrap_or(ACCEPTED)
 }

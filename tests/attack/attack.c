@@ -8,8 +8,9 @@
  * one leaves the rows that it only reads; made again with other bytes in the rows that it writes, it
  * gives the same answer and the same rows; elements given are below p, doubles are no NaN; a report's tests are
  * written by the rule that the inputs name, and with the switch on its true squared norm is within the bound; files and
- * their lengths are those that file_step.h works out. Every report that is encoded is also cut in two and taken through
- * all the other calls.
+ * their lengths are those that file_step.h works out; the shares of a report that is cut, and of the sampler, are as
+ * cut_step.h says. Every report that is encoded is also cut in two, by hand or here, and taken through all the other
+ * calls.
  *
  * With -DMEMCHECK, under valgrind, the rows that are written are handed over as uninitialised, and what
  * comes back must be initialised throughout. */
@@ -42,20 +43,17 @@
 
 enum Kind {
     CHECK_PARAM, DERIVE, WR_TEST_BOUND, F64_TO_FIELD, FIELD_TO_F64, ENCODE, ENCODE_SEED, RUN_WR_TESTS,
-    RUN_WR_TESTS_SEED, VALID, VALID_EQUAL, GRADIENT_PART, CHECKED_PART, RESULTS_PART, EMPTY_AGGREGATE, ACCUMULATE,
-    MERGE, SUBTRACT, UNMERGE, UNSHARD,
+    RUN_WR_TESTS_SEED, CUT, SAMPLE, VALID, VALID_EQUAL, GRADIENT_PART, CHECKED_PART, RESULTS_PART, EMPTY_AGGREGATE,
+    ACCUMULATE, MERGE, SUBTRACT, UNMERGE, UNSHARD,
     FILE_READ, FILE_WRITE, FILE_MAX, FILE_ADD, FILE_SIZE, KINDS
 };
 static const char *const names[KINDS] = {
     "check_param", "derive", "wr_test_bound", "f64_to_field", "field_to_f64", "encode_with_wr_joint_rand",
-    "encode_with_wr_joint_rand_seed", "run_wr_tests", "run_wr_tests_seed", "valid",
+    "encode_with_wr_joint_rand_seed", "run_wr_tests", "run_wr_tests_seed", "cut", "sample", "valid",
     "valid_sq_norm_equal", "gradient_part", "checked_part", "results_part", "empty_aggregate", "accumulate", "merge",
     "subtract", "unmerge", "unshard", "file_read", "file_write", "file_max", "file_add", "file_size"
 };
 enum { LAST_RULE = PINE_TRUE_SQ_NORM };
-static int is_rule(uint64_t n) {
-    return n <= PINE_FLOOR || (PINE_ALPHA <= n && n <= LAST_RULE);
-}
 static unsigned long long seed, made, counts[KINDS][LAST_RULE + 1], reports;
 static volatile enum Kind kind;
 
@@ -154,7 +152,7 @@ static PineParam any_param(void) {
 
 /* ---- rows */
 
-enum { MARGIN = 64, ROWS = 4 };
+enum { MARGIN = 64, ROWS = 6 };
 
 /* pages between two that may not be touched */
 typedef struct {
@@ -288,7 +286,7 @@ static void *pointer(void *row, size_t len) { return len == 0 && once_in(2) ? NU
 /* ---- checks */
 
 static void count(PineAnswer a) {
-    if (!is_rule(a.number) || (a.number == 0 && a.place != 0)) {
+    if (a.number > LAST_RULE || (a.number == 0 && a.place != 0)) {
         fail("an answer that is none");
     }
     counts[kind][a.number]++;
@@ -427,35 +425,59 @@ typedef PineAnswer RunWrTests(PineParam param, const uint64_t *gradient, size_t 
 static Encode *const encodes[] = {pine_encode_with_wr_joint_rand, pine_encode_with_wr_joint_rand_seed};
 static RunWrTests *const runs[] = {pine_run_wr_tests, pine_run_wr_tests_seed};
 
+/* ---- a report that is cut, and the sampler */
+
+#include "cut_step.h"
+
+/* Cuts it, and gives the shares and the seed. 0 where it is refused. */
+static int cut_report(PineParam p, const PineDerived *v, uint64_t *left, uint64_t *right, uint8_t *report_seed) {
+    kind = CUT;
+    CutRows r = cut_rows(p, v, 1);
+    if (cut_checked(p, &r).number != 0) {
+        return 0;
+    }
+    memcpy(left, r.leader, r.n[3] * 8);
+    memcpy(right, r.helper, r.n[4] * 8);
+    memcpy(report_seed, r.given, PINE_SEED_LEN);
+    return 1;
+}
+
+/* Encoded with a stream or a seed and cut by hand, or cut here. */
 static void report(PineParam p, const PineDerived *v) {
-    int seeded = once_in(2);
+    int cut = once_in(3), seeded = cut || once_in(2);
     size_t d = (size_t)p.dimension, encoded = (size_t)v->pine.encoded_input_len, full = (size_t)v->pine.input_len;
     size_t tests = (size_t)p.num_wr_tests, stream = seeded ? PINE_SEED_LEN : (size_t)v->stream_len;
     uint64_t *measurement = (uint64_t *)malloc(full * 8), *sum = (uint64_t *)malloc(full * 8);
+    uint64_t *left = (uint64_t *)malloc(full * 8), *right = (uint64_t *)malloc(full * 8);
     uint8_t *report_stream = (uint8_t *)malloc(stream);
-    if (measurement == NULL || sum == NULL || report_stream == NULL) {
+    if (measurement == NULL || sum == NULL || left == NULL || right == NULL || report_stream == NULL) {
         fail("out of memory");
     }
     PineAnswer a;
-    double *gradient = coordinates(0, d, p, 1);
+    if (cut && !cut_report(p, v, left, right, report_stream)) {
+        goto done;
+    }
+    double *gradient = cut ? (double *)(void *)rows[0].at : coordinates(0, d, p, 1);
     uint8_t *s = bytes(1, stream);
+    if (cut) {
+        memcpy(s, report_stream, stream);
+    }
     uint64_t *m = (uint64_t *)place(2, encoded, 8), *r = (uint64_t *)place(3, tests, 8);
     kind = seeded ? ENCODE_SEED : ENCODE;
     TWICE(4, 12, encodes[seeded](p, gradient, d, s, stream, m, encoded, r, tests));
     tests_written(p, &v->pine, a, m, r);
     norm_within(p, a, m);
     if (a.number != 0) {
+        if (cut) {
+            fail("refuses a gradient with the seed of its cut");
+        }
         goto done;
     }
     reports++;
     memcpy(measurement, m, encoded * 8);
     memcpy(measurement + encoded, r, tests * 8);
     memcpy(report_stream, s, stream);
-    uint64_t *left = (uint64_t *)malloc(full * 8), *right = (uint64_t *)malloc(full * 8);
-    if (left == NULL || right == NULL) {
-        fail("out of memory");
-    }
-    for (size_t k = 0; k < encoded; k++) {
+    for (size_t k = 0; !cut && k < encoded; k++) {
         left[k] = element();
         right[k] = sub(measurement[k], left[k]);
     }
@@ -507,11 +529,11 @@ static void report(PineParam p, const PineDerived *v) {
             fail("decodes otherwise than field_to_f64");
         }
     }
-    free(left);
-    free(right);
 done:
     free(measurement);
     free(sum);
+    free(left);
+    free(right);
     free(report_stream);
 }
 
@@ -630,6 +652,14 @@ static void step(void) {
         if (a.number == 0) {
             all_elements(r, n[2]);
         }
+        break;
+    }
+    case CUT: {
+        cut_step(p, &v);
+        break;
+    }
+    case SAMPLE: {
+        sample_step(p, &v);
         break;
     }
     case VALID:
@@ -778,17 +808,13 @@ int main(int argc, char **argv) {
     }
     printf("%-30s %10s", "call", "accepted");
     for (unsigned r = 1; r <= LAST_RULE; r++) {
-        if (is_rule(r)) {
-            printf(" %8u", r);
-        }
+        printf(" %8u", r);
     }
     printf("\n");
     for (int k = 0; k < KINDS; k++) {
         printf("%-30s", names[k]);
         for (unsigned r = 0; r <= LAST_RULE; r++) {
-            if (is_rule(r)) {
-                printf(r == 0 ? " %10llu" : " %8llu", counts[k][r]);
-            }
+            printf(r == 0 ? " %10llu" : " %8llu", counts[k][r]);
         }
         printf("\n");
     }

@@ -170,3 +170,60 @@ PineAnswer __wrap_pine_run_wr_tests_seed(PineParam p, const uint64_t *g, size_t 
     }
     return __real_pine_run_wr_tests_seed(p, g, gn, FAULT == 23 && sn == PINE_SEED_LEN ? other : s, sn, r, rn);
 }
+
+PineAnswer __real_pine_cut(PineParam p, const double *g, size_t gn, const uint8_t *nonce, size_t nn, const uint8_t *s,
+                           size_t sn, uint64_t *l, size_t ln, uint64_t *h, size_t hn, uint8_t *given, size_t n);
+PineAnswer __wrap_pine_cut(PineParam p, const double *g, size_t gn, const uint8_t *nonce, size_t nn, const uint8_t *s,
+                           size_t sn, uint64_t *l, size_t ln, uint64_t *h, size_t hn, uint8_t *given, size_t n);
+PineAnswer __real_pine_sample(PineParam p, const uint8_t *s, size_t sn, uint64_t *share, size_t n);
+PineAnswer __wrap_pine_sample(PineParam p, const uint8_t *s, size_t sn, uint64_t *share, size_t n);
+
+/* 24: swaps the shares; 25: takes the difference the other way round; 26: gives the two seeds swapped; 27: writes the
+ * helper's share before the tests are found out of range; 28: takes the first bytes of longer seeds */
+PineAnswer __wrap_pine_cut(PineParam p, const double *g, size_t gn, const uint8_t *nonce, size_t nn, const uint8_t *s,
+                           size_t sn, uint64_t *l, size_t ln, uint64_t *h, size_t hn, uint8_t *given, size_t n) {
+    if (FAULT == 28 && sn > PINE_CUT_SEEDS_LEN) {
+        sn = PINE_CUT_SEEDS_LEN;
+    }
+    PineAnswer a = FAULT == 24 ? __real_pine_cut(p, g, gn, nonce, nn, s, sn, h, hn, l, ln, given, n)
+                               : __real_pine_cut(p, g, gn, nonce, nn, s, sn, l, ln, h, hn, given, n);
+    for (size_t k = 0; FAULT == 25 && a.number == 0 && k < ln; k++) {
+        l[k] = l[k] == 0 ? 0 : PINE_FIELD_MODULUS - l[k];
+    }
+    for (size_t k = 0; FAULT == 26 && a.number == 0 && k < PINE_SEED_LEN; k++) {
+        uint8_t x = given[k];
+        given[k] = given[PINE_SEED_LEN + k];
+        given[PINE_SEED_LEN + k] = x;
+    }
+    if (FAULT == 27 && a.number == PINE_WR_TEST) {
+        h[0]++;
+    }
+    return a;
+}
+
+/* 29: keeps a value equal to p; 30: one draw too few; 31: high byte first; 32: one draw too many, for what it skips at
+ * the end */
+PineAnswer __wrap_pine_sample(PineParam p, const uint8_t *s, size_t sn, uint64_t *share, size_t n) {
+    PineAnswer a = __real_pine_sample(p, s, sn, share, n);
+    size_t found = 0, from = 0;
+    for (size_t k = 0; (a.number == 0 || a.number == PINE_DRAWS) && k < sn / 8 && found < n; k++) {
+        uint64_t x = 0, high_first = 0;
+        for (size_t i = 0; i < 8; i++) {
+            x |= (uint64_t)s[8 * k + i] << 8 * i;
+            high_first = high_first << 8 | s[8 * k + i];
+        }
+        if (x < PINE_FIELD_MODULUS || (FAULT == 29 && x == PINE_FIELD_MODULUS)) {
+            if (a.number == 0 && (FAULT == 29 || FAULT == 31)) {
+                share[found] = FAULT == 31 ? high_first : x;
+            }
+            found++, from = k;
+        }
+    }
+    if (FAULT == 30 && a.number == 0 && from + 1 == sn / 8) {
+        a.number = PINE_DRAWS;
+    }
+    if (FAULT == 32 && a.number == PINE_DRAWS && found + 1 == n) {
+        a.number = 0;
+    }
+    return a;
+}

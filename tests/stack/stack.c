@@ -21,9 +21,11 @@ static PineDerived derived;
 static size_t d, tests, encoded, full, stream_len;
 static double *gradient, *decoded;
 static uint64_t *elements, *measurement, *results, *other, joint_rand[PINE_JOINT_RAND_LEN] = {3, 5, 7};
-static uint8_t *stream, *file, *second, keys[8 * 1100];
+static uint64_t *leader, *helper;
+static uint8_t *stream, *draws, *file, *second, keys[8 * 1100], given[PINE_JOINT_RAND_SEEDS_LEN];
 static size_t file_len;
 static const uint8_t seed[PINE_SEED_LEN] = {1, 2, 3, 5, 8, 13, 21, 34, 55, 89, 144, 233};
+static const uint8_t nonce[PINE_NONCE_LEN] = {2, 7, 1, 8}, seeds[PINE_CUT_SEEDS_LEN] = {3, 1, 4, 1, 5, 9, 2, 6};
 static uint64_t taken;
 
 /* Below this frame the call's begins. */
@@ -66,6 +68,13 @@ static void run_wr_tests(void) { taken += pine_run_wr_tests(param, elements, d, 
 static void run_wr_tests_seed(void) {
     taken += pine_run_wr_tests_seed(param, elements, d, seed, PINE_SEED_LEN, results, tests).number;
 }
+static void cut(void) {
+    taken += pine_cut(param, gradient, d, nonce, PINE_NONCE_LEN, seeds, PINE_CUT_SEEDS_LEN, leader, encoded, helper,
+                      encoded, given, PINE_JOINT_RAND_SEEDS_LEN).number;
+}
+static void sample(void) {
+    taken += pine_sample(param, draws, 8 * (encoded + PINE_MORE_DRAWS), helper, encoded).number;
+}
 static void valid(void) { taken += pine_valid(param, 2, measurement, full, joint_rand, PINE_JOINT_RAND_LEN).value; }
 static void valid_sq_norm_equal(void) { taken += pine_valid_sq_norm_equal(param, 2, measurement, full).value; }
 static void gradient_part(void) { taken += pine_gradient_part(param, measurement, full).len; }
@@ -100,6 +109,8 @@ static const struct {
     {"encode_with_wr_joint_rand_seed", encode_seed},
     {"run_wr_tests", run_wr_tests},
     {"run_wr_tests_seed", run_wr_tests_seed},
+    {"cut", cut},
+    {"sample", sample},
     {"valid", valid},
     {"valid_sq_norm_equal", valid_sq_norm_equal},
     {"gradient_part", gradient_part},
@@ -140,7 +151,8 @@ int main(void) {
                 gradient = (double *)calloc(d, 8), decoded = (double *)calloc(d, 8);
                 elements = (uint64_t *)calloc(d, 8), other = (uint64_t *)calloc(d, 8);
                 measurement = (uint64_t *)calloc(full, 8), results = (uint64_t *)calloc(tests, 8);
-                stream = (uint8_t *)calloc(stream_len, 1);
+                leader = (uint64_t *)calloc(encoded, 8), helper = (uint64_t *)calloc(encoded, 8);
+                stream = (uint8_t *)calloc(stream_len, 1), draws = (uint8_t *)calloc(encoded + PINE_MORE_DRAWS, 8);
                 file_len = 18 + 8 * d, file = (uint8_t *)calloc(file_len, 1), second = (uint8_t *)calloc(2 * file_len, 1);
                 for (size_t i = 0; i < d; i++) {
                     gradient[i] = (double)(i % 3) / 4;
@@ -152,9 +164,10 @@ int main(void) {
                 for (size_t i = 0; i < sizeof keys; i++) { /* 1100 keys, of which as many differ */
                     keys[i] = (uint8_t)(i % 8 < 6 ? 1 + i % 8 : i % 8 == 6 ? i / 8 : i / 2048);
                 }
-                /* refused by 8 and 12, by 4, by 7 */
+                /* refused by 8, 12 and 18, by 4, by 7 */
                 if (wrong == 1) {
                     gradient[d - 1] = 1e-310;
+                    memset(draws, 255, 8 * (encoded + PINE_MORE_DRAWS));
                     elements[d - 1] = measurement[full - 1] = PINE_FIELD_MODULUS;
                 } else if (wrong == 2) {
                     param.frac_bits = 31;
@@ -166,7 +179,7 @@ int main(void) {
                     most[c] = used > most[c] ? used : most[c];
                 }
                 free(gradient), free(decoded), free(elements), free(other), free(measurement), free(results), free(stream);
-                free(file), free(second);
+                free(leader), free(helper), free(draws), free(file), free(second);
             }
         }
     }

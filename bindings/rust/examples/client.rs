@@ -1,10 +1,10 @@
-//! A client: encodes a gradient and cuts the measurement in two, one row for each server.
+//! A client: makes a report, which is a gradient encoded and cut in two, one share for each server.
 //!
 //!     cargo run --example client
 //!     cargo run --example client -- 1.5 -2.25 0 4 -0.125
 //!
 //! The randomness is NOT FOR USE: it is the same at each run.
-use jihmeto_pine::{Error, Gradient, Measurement, Pine, PineParam, Rule, Seed, FIELD_MODULUS};
+use jihmeto_pine::{Cut, CutSeeds, Error, Gradient, Pine, PineParam, Rule, FIELD_MODULUS};
 use std::process::ExitCode;
 
 /// What the clients and both servers agree on: gradients of 5 coordinates, of norm up to 16.
@@ -46,51 +46,25 @@ impl NotForUse {
         }
     }
 
-    fn seed(&mut self) -> Seed {
-        Seed::new(std::array::from_fn(|_| (self.word() >> 56) as u8))
+    fn bytes<const LEN: usize>(&mut self) -> [u8; LEN] {
+        std::array::from_fn(|_| (self.word() >> 56) as u8)
     }
 }
 
-/// What a client sends: the seed to both servers, to each server its row.
-pub struct Report {
-    pub seed: Seed,
-    pub rows: [Vec<u64>; 2],
-}
-
-pub fn report(pine: &Pine, gradient: &[f64], randomness: &mut NotForUse) -> Result<Report, Error> {
+/// What a client sends: to each server its share, and the two seeds to both.
+pub fn report(pine: &Pine, gradient: &[f64], randomness: &mut NotForUse) -> Result<Cut, Error> {
     let gradient = Gradient::new(gradient);
+    let nonce = randomness.bytes();
     let mut tries = 10;
     loop {
-        // here the client draws it; a client that is not trusted must not choose it
-        let seed = randomness.seed();
-        match pine.encode_with_wr_joint_rand_seed(&gradient, &seed) {
-            Ok(encoded) => {
-                let rows = cut(&encoded.measurement, randomness);
-                return Ok(Report { seed, rows });
-            }
-            // a test may miss by chance: another seed may do
+        match pine.cut(&gradient, &nonce, &CutSeeds::new(randomness.bytes())) {
+            // a test may miss by chance, a share take too many draws: other seeds may do
             Err(Error {
-                rule: Rule::WrTest, ..
+                rule: Rule::WrTest | Rule::Draws,
+                ..
             }) if tries > 1 => tries -= 1,
-            Err(refusal) => return Err(refusal),
+            made => return made,
         }
-    }
-}
-
-/// Two rows that add up to the measurement, of which one is random.
-fn cut(measurement: &Measurement<Vec<u64>>, randomness: &mut NotForUse) -> [Vec<u64>; 2] {
-    let whole = measurement.row();
-    let left: Vec<u64> = whole.iter().map(|_| randomness.element()).collect();
-    let right = whole.iter().zip(&left).map(|(&a, &b)| minus(a, b));
-    [left.clone(), right.collect()]
-}
-
-/// a - b modulo p, of numbers below p.
-pub fn minus(a: u64, b: u64) -> u64 {
-    if a >= b {
-        a - b
-    } else {
-        FIELD_MODULUS - (b - a)
     }
 }
 
@@ -111,11 +85,11 @@ fn main() -> ExitCode {
     match sent {
         Ok(report) => {
             println!("the gradient {gradient:?}, encoded and cut");
-            for (server, row) in report.rows.iter().enumerate() {
+            for (server, share) in [("leader", &report.leader), ("helper", &report.helper)] {
+                let row = share.row();
                 println!(
-                    "to server {}: a seed of {} bytes and {} elements, first {}, {}, ..",
-                    server + 1,
-                    report.seed.bytes().len(),
+                    "to the {server}: two seeds of {} bytes and {} elements, first {}, {}, ..",
+                    report.seeds.bytes().len() / 2,
                     row.len(),
                     row[0],
                     row[1]

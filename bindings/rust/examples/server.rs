@@ -1,4 +1,4 @@
-//! Two servers: each runs the wraparound tests on its share of every report, and adds the share to its aggregate; the
+//! Two servers, the leader and the helper: each runs the wraparound tests on its share of every report, and adds the share to its aggregate; the
 //! two aggregates give the sums of the gradients. Then a report is withdrawn.
 //!
 //!     cargo run --example server
@@ -6,8 +6,10 @@
 //! FOR SHOW both servers are in this process, and so are the clients; and the two full shares of a report are added in
 //! one place, where the circuits look at the whole. Whoever does that sees the report: servers that must not need an
 //! FLP proof, which this crate does not have.
-use client::{inputs, minus, report, NotForUse, Report};
-use jihmeto_pine::{Error, Full, FullShare, Pine, Seed, Share, FIELD_MODULUS, JOINT_RAND_LEN};
+use client::{inputs, report, NotForUse};
+use jihmeto_pine::{
+    Cut, Error, Full, FullShare, MeasurementShare, Pine, Seed, Share, FIELD_MODULUS, JOINT_RAND_LEN,
+};
 
 // its main is not called here
 #[allow(dead_code)]
@@ -20,8 +22,13 @@ const GRADIENTS: [[f64; 5]; 3] = [
     [0.0, 0.75, -6.5, 2.5, -10.0],
 ];
 
-/// What one server makes of the row that it was sent: the row, then the results of the tests on its share.
-fn full_share(pine: &Pine, row: &[u64], seed: &Seed) -> Result<FullShare<Vec<u64>>, Error> {
+/// What one server makes of the share that it was sent: the share, then the results of the tests on its first elements.
+fn full_share(
+    pine: &Pine,
+    sent: &MeasurementShare<Vec<u64>>,
+    seed: &Seed,
+) -> Result<FullShare<Vec<u64>>, Error> {
+    let row = sent.row();
     // a row that is too short is refused by its length
     let share = Share::new(row.get(..pine.dimension()).unwrap_or(row));
     let results = pine.run_wr_tests_seed(&share, seed)?;
@@ -41,11 +48,11 @@ fn whole(shares: &[FullShare<Vec<u64>>; 2]) -> Full<Vec<u64>> {
     Full::new(left.row().iter().zip(right.row()).map(plus).collect())
 }
 
-fn full_shares(pine: &Pine, report: &Report) -> Result<[FullShare<Vec<u64>>; 2], Error> {
-    let [left, right] = &report.rows;
+fn full_shares(pine: &Pine, report: &Cut) -> Result<[FullShare<Vec<u64>>; 2], Error> {
+    let seed = report.seeds.wr_joint_rand_seed();
     Ok([
-        full_share(pine, left, &report.seed)?,
-        full_share(pine, right, &report.seed)?,
+        full_share(pine, &report.leader, &seed)?,
+        full_share(pine, &report.helper, &seed)?,
     ])
 }
 
@@ -69,9 +76,10 @@ fn main() -> Result<(), Error> {
     for _ in 0..2 {
         reports.push(report(&pine, &GRADIENTS[0], &mut randomness)?);
     }
-    let bit = &mut reports[3].rows[0][pine.dimension()];
-    *bit = minus(*bit, 1);
-    reports[4].rows[1].pop();
+    let bit = &mut reports[3].leader.row_mut()[pine.dimension()];
+    *bit = (*bit + 1) % FIELD_MODULUS;
+    let short = &reports[4].helper.row()[1..];
+    reports[4].helper = MeasurementShare::new(short.to_vec());
 
     let mut aggregates = [pine.empty_aggregate()?, pine.empty_aggregate()?];
     let mut added = Vec::new();

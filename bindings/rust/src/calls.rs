@@ -220,6 +220,70 @@ pub fn run_wr_tests_seed(
     })
 }
 
+/// Encodes a gradient and cuts its measurement in two, as the original's `shard_with_rand` does up to the proofs: with a
+/// nonce ([`NONCE_LEN`](crate::NONCE_LEN)) and five seeds ([`CUT_SEEDS_LEN`](crate::CUT_SEEDS_LEN)), into the leader's
+/// share and the helper's (`encoded_input_len` each) and the two seeds given
+/// ([`JOINT_RAND_SEEDS_LEN`](crate::JOINT_RAND_SEEDS_LEN)). The shares add up to the measurement that
+/// [`encode_with_wr_joint_rand_seed`] gives with the first of these. [`CutSeeds`](crate::CutSeeds) says what the seeds
+/// must be, [`JointRandSeeds`](crate::JointRandSeeds) what those given are.
+///
+/// # Errors
+///
+/// Those of [`check_param`], then rules 7, 8 with 17, 9, 21, 10, 18, 11 or 20, in this order:
+/// [`RowLen`](crate::Rule::RowLen) of the rows 2 to 6, [`Coordinate`](crate::Rule::Coordinate) with
+/// [`Floor`](crate::Rule::Floor), [`GradientLen`](crate::Rule::GradientLen), [`TrueSqNorm`](crate::Rule::TrueSqNorm),
+/// [`SqNorm`](crate::Rule::SqNorm), [`Draws`](crate::Rule::Draws), [`WrTest`](crate::Rule::WrTest) or
+/// [`WrTestsInRange`](crate::Rule::WrTestsInRange).
+pub fn cut(
+    param: PineParam,
+    gradient: &[f64],
+    nonce: &[u8],
+    seeds: &[u8],
+    leader: &mut [u64],
+    helper: &mut [u64],
+    given: &mut [u8],
+) -> Result<(), Error> {
+    // SAFETY: each pointer is a slice's own, with that slice's length; the borrows keep them apart.
+    result(unsafe {
+        ffi::pine_cut(
+            param.into(),
+            gradient.as_ptr(),
+            gradient.len(),
+            nonce.as_ptr(),
+            nonce.len(),
+            seeds.as_ptr(),
+            seeds.len(),
+            leader.as_mut_ptr(),
+            leader.len(),
+            helper.as_mut_ptr(),
+            helper.len(),
+            given.as_mut_ptr(),
+            given.len(),
+        )
+    })
+}
+
+/// The sampler by which [`cut`] makes the helper's share, over a stream that is lent (8 bytes for each of
+/// `encoded_input_len` + [`MORE_DRAWS`](crate::MORE_DRAWS) values): its values below p, low byte first, fill the share
+/// (`encoded_input_len`).
+///
+/// # Errors
+///
+/// Those of [`check_param`], then rules 7, 18, in this order: [`RowLen`](crate::Rule::RowLen),
+/// [`Draws`](crate::Rule::Draws).
+pub fn sample(param: PineParam, stream: &[u8], share: &mut [u64]) -> Result<(), Error> {
+    // SAFETY: each pointer is a slice's own, with that slice's length; the borrows keep them apart.
+    result(unsafe {
+        ffi::pine_sample(
+            param.into(),
+            stream.as_ptr(),
+            stream.len(),
+            share.as_mut_ptr(),
+            share.len(),
+        )
+    })
+}
+
 fn circuit(given: ffi::Circuit) -> Result<Circuit, Error> {
     result(given.answer)?;
     Ok(Circuit {

@@ -20,7 +20,7 @@ pub struct Error {
 macro_rules! rules {
     ($($(#[$doc:meta])* $name:ident = $number:literal: $sentence:literal,)*) => {
         /// The rules. A call tests its rules in one order and answers with the first that is broken: 1 to 6, 19, 7, 14,
-        /// 13, 12, 15, 16, 8 with 17, 9, 21, 10, 11 or 20. docs/PINE.md of the project, "The rules", has the table.
+        /// 13, 12, 15, 16, 8 with 17, 9, 21, 10, 18, 11 or 20. docs/PINE.md of the project, "The rules", has the table.
         #[derive(Clone, Copy, Debug, PartialEq, Eq, Hash)]
         #[non_exhaustive]
         pub enum Rule {
@@ -90,6 +90,9 @@ rules! {
     ReportCount = 16: "the key's count of reports is already 4294967295",
     /// The place is its index; of this rule and [`Rule::Coordinate`] the lower index is answered.
     Floor = 17: "the floor of a coordinate is beyond (p - 1) / 2 either way",
+    /// Of the helper's share: encoded_input_len values below p are wanted of
+    /// [`MORE_DRAWS`](crate::MORE_DRAWS) more. Another seed may do.
+    Draws = 18: "too few of the values drawn are below p",
     Alpha = 19: "alpha_numerator or alpha_denominator is 0",
     /// By [`WrTestRule::Enough`](crate::WrTestRule::Enough). The place is how many are in range. Another stream or seed
     /// may do.

@@ -221,6 +221,28 @@ extern "C" {
         results: *mut u64,
         results_len: usize,
     ) -> Answer;
+    pub fn pine_cut(
+        param: Inputs,
+        gradient: *const f64,
+        gradient_len: usize,
+        nonce: *const u8,
+        nonce_len: usize,
+        seeds: *const u8,
+        seeds_len: usize,
+        leader: *mut u64,
+        leader_len: usize,
+        helper: *mut u64,
+        helper_len: usize,
+        given: *mut u8,
+        given_len: usize,
+    ) -> Answer;
+    pub fn pine_sample(
+        param: Inputs,
+        stream: *const u8,
+        stream_len: usize,
+        share: *mut u64,
+        share_len: usize,
+    ) -> Answer;
     pub fn pine_valid(
         param: Inputs,
         num_shares: u64,

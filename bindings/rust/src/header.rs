@@ -3,8 +3,8 @@ extern crate std;
 
 use crate::ffi::LAYOUTS;
 use crate::{
-    Error, Rule, FIELD_MODULUS, FILE_ENTRY_LEN, FILE_HEADER_LEN, FILE_KEY_LEN, JOINT_RAND_LEN,
-    MAX_FILE_ENTRIES, SEED_LEN,
+    Error, Rule, CUT_SEEDS_LEN, FIELD_MODULUS, FILE_ENTRY_LEN, FILE_HEADER_LEN, FILE_KEY_LEN,
+    JOINT_RAND_LEN, JOINT_RAND_SEEDS_LEN, MAX_FILE_ENTRIES, MORE_DRAWS, NONCE_LEN, SEED_LEN,
 };
 use std::format;
 use std::string::{String, ToString};
@@ -82,7 +82,7 @@ fn every_rule_has_the_headers_number() {
 
 #[test]
 fn an_unknown_number_is_kept() {
-    for number in [18, 23, u64::MAX] {
+    for number in [23, 24, u64::MAX] {
         let refusal = Error::of(number, 5).unwrap_err();
         assert_eq!(refusal.rule, Rule::Other(number));
         assert_eq!(refusal.rule.number(), number);
@@ -101,8 +101,12 @@ fn the_constants_are_the_headers() {
         "#define PINE_FIELD_MODULUS UINT64_C({FIELD_MODULUS:#x})"
     )));
     assert!(text.contains(&format!("#define PINE_JOINT_RAND_LEN {JOINT_RAND_LEN}")));
-    assert!(text.contains(&format!("#define PINE_SEED_LEN {SEED_LEN}")));
     for (name, number) in [
+        ("SEED_LEN", SEED_LEN),
+        ("NONCE_LEN", NONCE_LEN),
+        ("CUT_SEEDS_LEN", CUT_SEEDS_LEN),
+        ("JOINT_RAND_SEEDS_LEN", JOINT_RAND_SEEDS_LEN),
+        ("MORE_DRAWS", MORE_DRAWS),
         ("MAX_FILE_ENTRIES", MAX_FILE_ENTRIES),
         ("FILE_HEADER_LEN", FILE_HEADER_LEN),
         ("FILE_ENTRY_LEN", FILE_ENTRY_LEN),

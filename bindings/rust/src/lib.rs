@@ -13,14 +13,13 @@
 #![cfg_attr(feature = "alloc", doc = "```")]
 #![cfg_attr(not(feature = "alloc"), doc = "```ignore")]
 //! # fn main() -> Result<(), jihmeto_pine::Error> {
-//! use jihmeto_pine::{Gradient, Pine, PineParam, Seed};
+//! use jihmeto_pine::{CutSeeds, Gradient, Pine, PineParam};
 //!
 //! // norm_bound, dimension, frac_bits, both chunk lengths, num_wr_tests, num_wr_successes
 //! let pine = Pine::new(PineParam::standard(1 << 12, 2, 8, 16, 2, 10, 10))?;
-//! let seed = Seed::new([0x1b; 16]); // random bytes, of a real report
-//! let gradient = Gradient::new([1.5, -0.25]);
-//! let encoded = pine.encode_with_wr_joint_rand_seed(&gradient, &seed)?;
-//! assert_eq!(encoded.measurement.row()[0], 384);
+//! let (nonce, seeds) = ([0; 16], CutSeeds::new([0x1b; 80])); // random bytes, of a real report
+//! let cut = pine.cut(&Gradient::new([1.5, -0.25]), &nonce, &seeds)?;
+//! assert_eq!(cut.leader.row().len(), pine.encoded_input_len());
 //! # Ok(())
 //! # }
 //! ```
@@ -30,17 +29,16 @@
 //!
 //! # What it is not
 //!
-//! - **Not a whole VDAF.** There is no FLP proof, query or decide, no prepare, no sharding and no message
-//!   format. **Two servers that hold only shares cannot check a report with this alone**: both circuits multiply
-//!   elements, so their values on two shares do not add up to the value on the whole, and a value of 0 says something
-//!   of a whole vector only. The example `server` adds the two full shares in one place for show; whoever does so sees
-//!   the report.
+//! - **Not a whole VDAF.** There is no FLP proof, query or decide, no prepare and no message format; of sharding there
+//!   is all up to the proofs. **Two servers that hold only shares cannot check a report with this alone**: both circuits
+//!   multiply elements, so their values on two shares do not add up to the value on the whole, and a value of 0 says
+//!   something of a whole vector only. The example `server` adds the two full shares in one place for show; whoever does
+//!   so sees the report.
 //! - **No randomness of its own.** The caller brings all of it, and no theorem says what poor randomness costs:
-//!   - the seed of the wraparound tests ([`Seed`]): 16 bytes, fresh for each report, secret, from a cryptographic source,
-//!     the same for the client and both servers, and not of the client's choosing; in PINE it comes from the joint
-//!     randomness. Or the stream itself: uniform random bytes, of which the same holds;
-//!   - the cut of a measurement in two: one row of uniform random field numbers, secret, new for each report, from a
-//!     cryptographic generator; the other row is the difference;
+//!   - the five seeds of a report that is cut ([`CutSeeds`]): fresh for each report, secret, from a cryptographic
+//!     source. The seed of the wraparound tests comes of it, the same for the client and both servers;
+//!   - of a report that is encoded alone, that seed ([`Seed`]), or its stream, and the cut: one row of uniform random
+//!     field numbers, secret, new for each report; the other row is the difference;
 //!   - the joint randomness r1, r2, r3: uniform field numbers that the client could not foresee when it fixed its
 //!     report.
 //! - **Time is not constant.** It depends on the inputs, the lengths and the data.
@@ -82,24 +80,27 @@ mod rows;
 mod seed;
 
 pub use calls::{
-    accumulate, check_param, checked_part, derive, empty_aggregate, encode_with_wr_joint_rand,
+    accumulate, check_param, checked_part, cut, derive, empty_aggregate, encode_with_wr_joint_rand,
     encode_with_wr_joint_rand_seed, f64_to_field, field_to_f64, gradient_part, merge, results_part,
-    run_wr_tests, run_wr_tests_seed, subtract, unmerge, unshard, valid, valid_sq_norm_equal,
-    Circuit,
+    run_wr_tests, run_wr_tests_seed, sample, subtract, unmerge, unshard, valid,
+    valid_sq_norm_equal, Circuit,
 };
 pub use error::{Error, Rule};
 pub use file::{file_add, file_max, file_read, file_size, file_write, FileKey};
 #[cfg(feature = "alloc")]
 pub use file::{DayFile, FileEntry, FileRows};
 pub use param::{Derived, Lengths, PineParam, Record, WrTestRule};
-#[cfg(feature = "alloc")]
-pub use pine::Encoded;
 pub use pine::Pine;
+#[cfg(feature = "alloc")]
+pub use pine::{Cut, Encoded};
 pub use rows::{
     Aggregate, FileBodies, FileBytes, FileContents, Full, FullShare, Gradient, Measurement,
-    Results, Share,
+    MeasurementShare, Results, Share,
 };
-pub use seed::{Seed, SEED_LEN};
+pub use seed::{
+    CutSeeds, JointRandSeeds, Seed, CUT_SEEDS_LEN, JOINT_RAND_SEEDS_LEN, MORE_DRAWS, NONCE_LEN,
+    SEED_LEN,
+};
 
 /// p, the modulus of Field64.
 pub const FIELD_MODULUS: u64 = 0xffff_ffff_0000_0001;

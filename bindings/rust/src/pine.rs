@@ -2,8 +2,10 @@
 use crate::calls::{self, Circuit};
 use crate::error::Error;
 use crate::param::{Derived, PineParam};
-use crate::rows::{Aggregate, Full, FullShare, Gradient, Measurement, Results, Share};
-use crate::seed::Seed;
+use crate::rows::{
+    Aggregate, Full, FullShare, Gradient, Measurement, MeasurementShare, Results, Share,
+};
+use crate::seed::{CutSeeds, JointRandSeeds, Seed, MORE_DRAWS, NONCE_LEN};
 use crate::JOINT_RAND_LEN;
 #[cfg(feature = "alloc")]
 use alloc::{vec, vec::Vec};
@@ -17,6 +19,19 @@ pub struct Encoded {
     pub measurement: Measurement<Vec<u64>>,
     /// Those of the whole measurement. Each server works out those of its share.
     pub results: Results<Vec<u64>>,
+}
+
+/// A report, cut in two: all that a client sends, but for the proofs.
+#[cfg(feature = "alloc")]
+#[derive(Clone, Debug, PartialEq, Eq)]
+#[must_use]
+pub struct Cut {
+    /// For the leader alone.
+    pub leader: MeasurementShare<Vec<u64>>,
+    /// For the helper alone.
+    pub helper: MeasurementShare<Vec<u64>>,
+    /// For both.
+    pub seeds: JointRandSeeds,
 }
 
 /// Inputs that were accepted, with what follows from them, and the calls with these inputs.
@@ -198,6 +213,95 @@ impl Pine {
             measurement,
             results,
         })
+    }
+
+    /// The bytes of a stream for [`sample_into`](Pine::sample_into).
+    #[must_use]
+    pub const fn sample_stream_len(&self) -> usize {
+        8 * (self.encoded_input_len() + MORE_DRAWS)
+    }
+
+    /// Encodes a gradient and cuts its measurement in two, as the original does up to the proofs: the leader's share and
+    /// the helper's, one for each server, and the seeds of the joint randomness, for both. The shares add up to the
+    /// measurement that [`encode_with_wr_joint_rand_seed_into`](Pine::encode_with_wr_joint_rand_seed_into) gives with
+    /// the seed of the wraparound tests given. The nonce is the report's own and public. Seeds that 18, 11 or 20 refuses
+    /// may be replaced by others.
+    ///
+    /// # Errors
+    ///
+    /// Rules 7, 8 with 17, 9, 21, 10, 18, 11 or 20, in this order: [`RowLen`](crate::Rule::RowLen) of the leader's share
+    /// and the helper's (places 4 and 5), [`Coordinate`](crate::Rule::Coordinate) with [`Floor`](crate::Rule::Floor),
+    /// [`GradientLen`](crate::Rule::GradientLen), [`TrueSqNorm`](crate::Rule::TrueSqNorm),
+    /// [`SqNorm`](crate::Rule::SqNorm), [`Draws`](crate::Rule::Draws), [`WrTest`](crate::Rule::WrTest) or
+    /// [`WrTestsInRange`](crate::Rule::WrTestsInRange).
+    pub fn cut_into(
+        &self,
+        gradient: &Gradient<impl AsRef<[f64]>>,
+        nonce: &[u8; NONCE_LEN],
+        seeds: &CutSeeds,
+        leader: &mut MeasurementShare<impl AsMut<[u64]>>,
+        helper: &mut MeasurementShare<impl AsMut<[u64]>>,
+        given: &mut JointRandSeeds,
+    ) -> Result<(), Error> {
+        calls::cut(
+            self.param,
+            gradient.row(),
+            nonce,
+            seeds.bytes(),
+            leader.row_mut(),
+            helper.row_mut(),
+            given.bytes_mut(),
+        )
+    }
+
+    /// As [`cut_into`](Pine::cut_into), with the rows and the seeds given.
+    ///
+    /// # Errors
+    ///
+    /// Rules 8 with 17, 9, 21, 10, 18, 11 or 20, as there.
+    #[cfg(feature = "alloc")]
+    pub fn cut(
+        &self,
+        gradient: &Gradient<impl AsRef<[f64]>>,
+        nonce: &[u8; NONCE_LEN],
+        seeds: &CutSeeds,
+    ) -> Result<Cut, Error> {
+        let mut cut = Cut {
+            leader: MeasurementShare::new(vec![0; self.encoded_input_len()]),
+            helper: MeasurementShare::new(vec![0; self.encoded_input_len()]),
+            seeds: JointRandSeeds::new([0; crate::JOINT_RAND_SEEDS_LEN]),
+        };
+        let (leader, helper) = (&mut cut.leader, &mut cut.helper);
+        self.cut_into(gradient, nonce, seeds, leader, helper, &mut cut.seeds)?;
+        Ok(cut)
+    }
+
+    /// The sampler by which [`cut_into`](Pine::cut_into) makes the helper's share, over a stream that is lent,
+    /// [`sample_stream_len`](Pine::sample_stream_len) bytes: its values of 8 bytes, low byte first, that are below p
+    /// fill the share.
+    ///
+    /// # Errors
+    ///
+    /// Rules 7, 18, in this order: [`RowLen`](crate::Rule::RowLen) of the stream and the share,
+    /// [`Draws`](crate::Rule::Draws).
+    pub fn sample_into(
+        &self,
+        stream: &[u8],
+        share: &mut MeasurementShare<impl AsMut<[u64]>>,
+    ) -> Result<(), Error> {
+        calls::sample(self.param, stream, share.row_mut())
+    }
+
+    /// As [`sample_into`](Pine::sample_into), with the share given.
+    ///
+    /// # Errors
+    ///
+    /// Rules 7, 18, as there; [`RowLen`](crate::Rule::RowLen) of the stream only (place 1).
+    #[cfg(feature = "alloc")]
+    pub fn sample(&self, stream: &[u8]) -> Result<MeasurementShare<Vec<u64>>, Error> {
+        let mut share = MeasurementShare::new(vec![0; self.encoded_input_len()]);
+        self.sample_into(stream, &mut share)?;
+        Ok(share)
     }
 
     /// The wraparound tests alone, on a server's share, with the report's stream. A result out of range is no refusal

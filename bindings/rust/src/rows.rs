@@ -51,6 +51,11 @@ row! {
     Measurement of u64
 }
 row! {
+    /// A server's row of a cut measurement, the leader's or the helper's: encoded_input_len field numbers. The first
+    /// dimension of them are its [`Share`].
+    MeasurementShare of u64
+}
+row! {
     /// The results of the wraparound tests: num_wr_tests field numbers.
     Results of u64
 }

@@ -383,6 +383,11 @@ fn errors_say_what_is_wrong() {
             "an element is not below p (rule 12, element 5 of the rows read)",
         ),
         (
+            Rule::Draws,
+            0,
+            "too few of the values drawn are below p (rule 18)",
+        ),
+        (
             Rule::TrueSqNorm,
             0,
             "the true squared norm is above its bound (rule 21)",

@@ -390,13 +390,188 @@ fn a_seed_of_another_length_is_refused() {
 #[test]
 fn a_seed_is_not_written_out() {
     assert_eq!(format!("{:?}", Seed::new(SEED)), "Seed(..)");
+    assert_eq!(format!("{:?}", five_seeds()), "CutSeeds(..)");
+    let given = JointRandSeeds::new([1; 32]);
+    assert_eq!(format!("{given:?}"), "JointRandSeeds(..)");
     assert_eq!(Seed::new(SEED).bytes(), &SEED);
+}
+
+// 00 01 .. 0f as nonce, 10 11 .. 5f as the five seeds, the gradient 1, 0, 0, 0: as the original answers them
+const LEADER: [u64; 18] = [
+    0x5d893f9206db0583,
+    0x739f8804dffc583f,
+    0x960292e9ef9ac3ce,
+    0xfb29e7e6a626b9cd,
+    0x89d6f8c8351e7689,
+    0x971d2ff95d40790a,
+    0x9d4f535cf184998c,
+    0x8b049391da61f6c7,
+    0xed1807ee07eeb685,
+    0xa531e257226a2595,
+    0x2f71afda6c944012,
+    0x505f4d1936b3dcc4,
+    0x3584233965ef737a,
+    0x1408a7c34e85a24e,
+    0xd905d2e823f4e7fe,
+    0xc927dac04cd3ee9d,
+    0x7dca9ee5d6c0ed57,
+    0x41d17448eb452b11,
+];
+const HELPER: [u64; 18] = [
+    0xa276c06cf924fa7f,
+    0x8c6077fa2003a7c2,
+    0x69fd6d1510653c33,
+    0x4d6181859d94634,
+    0x76290736cae18979,
+    0x68e2d005a2bf86f7,
+    0x62b0aca20e7b6676,
+    0x74fb6c6d259e093b,
+    0x12e7f810f811497d,
+    0x5ace1da7dd95da6d,
+    0xd08e5024936bbfef,
+    0xafa0b2e5c94c233e,
+    0xca7bdcc59a108c88,
+    0xebf7583bb17a5db4,
+    0x26fa2d16dc0b1804,
+    0x36d8253eb32c1165,
+    0x82356119293f12aa,
+    0xbe2e8bb614bad4f1,
+];
+const WR_SEED: u128 = 0x465661cd4ada42648b525bc9de7fac8e;
+const VF_SEED: u128 = 0x5b0420d14a7c1ceb749c139d8b7fb5a3;
+const GRADIENT: Gradient<[f64; 4]> = Gradient::new([1.0, 0.0, 0.0, 0.0]);
+
+fn five_seeds() -> CutSeeds {
+    CutSeeds::new(std::array::from_fn(|i| 16 + i as u8))
+}
+
+#[test]
+fn a_report_is_cut_as_in_the_original() {
+    let pine = Pine::new(small()).unwrap();
+    let mut leader = MeasurementShare::new([7; 18]);
+    let mut helper = MeasurementShare::new([7; 18]);
+    let mut given = JointRandSeeds::new([7; JOINT_RAND_SEEDS_LEN]);
+    let (gradient, seeds) = (&GRADIENT, &five_seeds());
+    pine.cut_into(gradient, &SEED, seeds, &mut leader, &mut helper, &mut given)
+        .unwrap();
+    assert_eq!((leader.row(), helper.row()), (&LEADER[..], &HELPER[..]));
+    let [wr, vf] = [given.wr_joint_rand_seed(), given.vf_joint_rand_seed()];
+    assert_eq!(wr.bytes(), &WR_SEED.to_be_bytes());
+    assert_eq!(vf.bytes(), &VF_SEED.to_be_bytes());
+    assert_eq!(given.bytes()[..], [*wr.bytes(), *vf.bytes()].concat());
+
+    let mut rows = ([7; 18], [7; 18], [7; 32]);
+    let seeds = seeds.bytes();
+    let (left, right, both) = (&mut rows.0, &mut rows.1, &mut rows.2);
+    cut(small(), gradient.row(), &SEED, seeds, left, right, both).unwrap();
+    assert_eq!(rows, (LEADER, HELPER, *given.bytes()));
+
+    // the shares add up to the measurement that the seed of the tests makes
+    let mut measurement = Measurement::new([7; 18]);
+    let mut results = Results::new([7; 2]);
+    pine.encode_with_wr_joint_rand_seed_into(gradient, &wr, &mut measurement, &mut results)
+        .unwrap();
+    for (i, &x) in measurement.row().iter().enumerate() {
+        let sum = u128::from(LEADER[i]) + u128::from(HELPER[i]);
+        assert_eq!(sum % u128::from(P), u128::from(x));
+    }
+}
+
+#[test]
+fn cutting_tests_its_rules_in_the_order_of_the_documentation() {
+    let ask = |switch, wr_test_rule, gradient: &[f64], lengths: [usize; 5]| {
+        let param = PineParam {
+            true_sq_norm: switch,
+            wr_test_rule,
+            alpha_numerator: 1,
+            alpha_denominator: 65535,
+            norm_bound: 2,
+            ..small()
+        };
+        let [nonce, seeds, leader, helper, given] = lengths;
+        let mut rows = (vec![7; leader], vec![7; helper], vec![7; given]);
+        let (left, right, both) = (&mut rows.0, &mut rows.1, &mut rows.2);
+        let (nonce, seeds) = (vec![1; nonce], vec![4; seeds]);
+        let answer = cut(param, gradient, &nonce, &seeds, left, right, both);
+        if answer.is_err() {
+            assert_eq!(rows, (vec![7; leader], vec![7; helper], vec![7; given]));
+        }
+        rule(answer)
+    };
+    use WrTestRule::{Enough, Every};
+    // each line mends what the one before was refused by
+    let far = [9.0, f64::NAN, 1e300];
+    for (place, lengths) in [
+        (2, [15, 79, 15, 15, 31]),
+        (3, [16, 79, 15, 15, 31]),
+        (4, [16, 80, 15, 15, 31]),
+        (5, [16, 80, 16, 15, 31]),
+        (6, [16, 80, 16, 16, 31]),
+    ] {
+        let refusal = Some((Rule::RowLen, place));
+        assert_eq!(ask(true, Every, &far, lengths), refusal);
+        let longer = lengths.map(|n| if n % 2 == 0 { n } else { n + 2 });
+        assert_eq!(ask(true, Every, &far, longer), refusal);
+    }
+    let ask = |switch, rule, gradient: &[f64]| ask(switch, rule, gradient, [16, 80, 16, 16, 32]);
+    assert_eq!(ask(true, Every, &far), Some((Rule::Coordinate, 1)));
+    assert_eq!(ask(true, Every, &[9.0, 1e300]), Some((Rule::Floor, 1)));
+    assert_eq!(ask(true, Every, &[9.0; 3]), Some((Rule::GradientLen, 0)));
+    assert_eq!(ask(true, Every, &[9.0; 4]), Some((Rule::TrueSqNorm, 0)));
+    assert_eq!(ask(false, Every, &[9.0; 4]), Some((Rule::SqNorm, 0)));
+    // the squared norm wraps to 0, and the second test misses
+    let wraps = [2f64.powi(48), 1.0, 0.0, 0.0];
+    assert_eq!(ask(false, Every, &wraps), Some((Rule::WrTest, 1)));
+    assert_eq!(ask(false, Enough, &wraps), Some((Rule::WrTestsInRange, 1)));
+    assert_eq!(ask(true, Enough, &[0.0; 4]), None);
+}
+
+#[test]
+fn values_are_drawn_as_far_as_the_limit() {
+    let pine = Pine::new(small()).unwrap();
+    let len = pine.sample_stream_len();
+    assert_eq!(len, 8 * (18 + MORE_DRAWS));
+    let stream = |skipped: usize, from: usize| -> Vec<u8> {
+        let is_skipped = |i| from <= i && i < from + skipped;
+        let value = |i: usize| {
+            if is_skipped(i) {
+                P + i as u64
+            } else {
+                256 + i as u64
+            }
+        };
+        (0..len / 8).flat_map(|i| value(i).to_le_bytes()).collect()
+    };
+    let mut share = MeasurementShare::new([7; 18]);
+    pine.sample_into(&stream(64, 0), &mut share).unwrap();
+    let values: Vec<u64> = (64..82).map(|i| 256 + i).collect();
+    assert_eq!(share.row(), values);
+    pine.sample_into(&stream(3, 5), &mut share).unwrap();
+    let values: Vec<u64> = (0..5).chain(8..21).map(|i| 256 + i).collect();
+    assert_eq!(share.row(), values);
+    let before = share;
+    let refused = pine.sample_into(&stream(65, 0), &mut share);
+    assert_eq!(rule(refused), Some((Rule::Draws, 0)));
+    let short = pine.sample_into(&stream(65, 0)[1..], &mut share);
+    assert_eq!(rule(short), Some((Rule::RowLen, 1)));
+    let short = sample(small(), &stream(65, 0), &mut share.row_mut()[1..]);
+    assert_eq!(rule(short), Some((Rule::RowLen, 2)));
+    assert_eq!(share, before);
 }
 
 #[cfg(feature = "alloc")]
 #[test]
 fn calls_that_give_rows() {
     let pine = Pine::new(small()).unwrap();
+    let cut = pine.cut(&GRADIENT, &SEED, &five_seeds()).unwrap();
+    assert_eq!(
+        (cut.leader.row(), cut.helper.row()),
+        (&LEADER[..], &HELPER[..])
+    );
+    assert_eq!(cut.seeds.bytes()[..16], WR_SEED.to_be_bytes());
+    let stream: Vec<u8> = (0..82u64).flat_map(u64::to_le_bytes).collect();
+    let sampled = pine.sample(&stream).unwrap().into_row();
+    assert_eq!(sampled, (0..18).collect::<Vec<u64>>());
     let gradient = Gradient::new(vec![1.0, 0.0, 0.0, 0.0]);
     let Encoded {
         measurement,

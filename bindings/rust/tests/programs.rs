@@ -110,8 +110,8 @@ fn example(words: &[&str]) -> Output {
 #[test]
 fn the_client_sends_two_rows() {
     let lines = said(&example(&["client"]));
-    for server in 1..=2 {
-        let start = format!("to server {server}: a seed of 16 bytes and 235 elements, first ");
+    for server in ["leader", "helper"] {
+        let start = format!("to the {server}: two seeds of 16 bytes and 235 elements, first ");
         assert!(lines.contains(&start), "{lines}");
     }
     assert!(lines.contains("NOT FOR USE"));

@@ -2,6 +2,7 @@
 use crate::aggregates;
 use crate::aggregates::Call;
 use crate::circuits;
+use crate::cuts;
 use crate::files;
 use crate::inputs::read_later;
 use crate::inputs::read_param;
@@ -128,6 +129,17 @@ fn of_circuits(name: &[u8], line: &[u8], c: Cursor, out: &mut [u8], at: usize) -
     of_vectors(name, line, c, out, at)
 }
 
+// The commands that cut a report and that sample a share, and those above.
+fn of_cuts(name: &[u8], line: &[u8], c: Cursor, out: &mut [u8], at: usize) -> usize {
+    if check::same(name, b"cut") {
+        return cuts::cut(line, c, out, at);
+    }
+    if check::same(name, b"sample") {
+        return cuts::sample(line, c, out, at);
+    }
+    of_circuits(name, line, c, out, at)
+}
+
 // The commands on a report, and those above.
 fn of_reports(name: &[u8], line: &[u8], c: Cursor, out: &mut [u8], at: usize) -> usize {
     if check::same(name, b"encode") {
@@ -142,7 +154,7 @@ fn of_reports(name: &[u8], line: &[u8], c: Cursor, out: &mut [u8], at: usize) ->
     if check::same(name, b"wrtestsseed") {
         return reports::wrtests(line, c, out, at, true);
     }
-    of_circuits(name, line, c, out, at)
+    of_cuts(name, line, c, out, at)
 }
 
 // The commands that take out of an aggregate, and those above.

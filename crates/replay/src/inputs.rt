@@ -176,3 +176,34 @@ pub fn lent_rows(line: &[u8], c: Cursor, derived: [u64; 2], room_1: usize, room_
         second: second.len,
     }
 }
+
+pub struct LentThree {
+    pub ok: bool,
+    pub first: usize,
+    pub second: usize,
+    pub third: usize,
+}
+
+// The same of a command that is lent three.
+pub fn lent_three(
+    line: &[u8],
+    c: Cursor,
+    derived: [u64; 3],
+    room_1: usize,
+    room_2: usize,
+    room_3: usize,
+) -> LentThree
+    ensures { λ r. ⌜ (r .first ≤ «room_1») × ((r .second ≤ «room_2») × (r .third ≤ «room_3»)) ⌝ }
+{
+    let mut lens = derived;
+    let ok = words::ends_with_lens(line, c, &mut lens);
+    let first = fit(ok, lens[0], room_1);
+    let second = fit(ok, lens[1], room_2);
+    let third = fit(ok, lens[2], room_3);
+    LentThree {
+        ok: first.ok & second.ok & third.ok,
+        first: first.len,
+        second: second.len,
+        third: third.len,
+    }
+}

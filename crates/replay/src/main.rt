@@ -7,6 +7,7 @@ mod aggregates;
 mod bytes;
 mod cases;
 mod circuits;
+mod cuts;
 mod files;
 mod inputs;
 mod loads;

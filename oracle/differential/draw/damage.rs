@@ -38,7 +38,7 @@ fn length(random: &mut Random, row: &mut Row) {
     match row {
         Row::Doubles(row) => row.resize_with(len, || if random.once_in(4) { singles::double(random, 0) } else { 0 }),
         Row::Elements(row) | Row::Aggregate(row) => row.resize_with(len, || elements::element(random)),
-        Row::Bytes(bytes) => bytes.resize_with(len, || random.next() as u8),
+        Row::Bytes(bytes) | Row::WrittenBytes(bytes) => bytes.resize_with(len, || random.next() as u8),
         Row::Written(row) => row.resize_with(len, || random.next()),
     }
 }
@@ -55,7 +55,7 @@ fn unusable(random: &mut Random) -> u64 {
 
 /// One element of it or two, or its length where it has none to spoil.
 fn content(random: &mut Random, row: &mut Row, f: u64) {
-    if row.len() == 0 || matches!(row, Row::Bytes(_) | Row::Written(_)) {
+    if row.len() == 0 || row.is_lent() || matches!(row, Row::Bytes(_)) {
         return length(random, row);
     }
     for _ in 0..random.between(1, 2) {
@@ -65,7 +65,7 @@ fn content(random: &mut Random, row: &mut Row, f: u64) {
             Row::Doubles(row) if random.once_in(3) => row[at] = singles::beyond(random, f),
             Row::Doubles(row) => row[at] = unusable(random),
             Row::Elements(row) | Row::Aggregate(row) => row[at] = not_an_element(random),
-            Row::Bytes(_) | Row::Written(_) => (),
+            Row::Bytes(_) | Row::Written(_) | Row::WrittenBytes(_) => (),
         }
     }
 }

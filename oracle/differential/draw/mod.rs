@@ -12,7 +12,9 @@ use crate::{
     param::{Param, Sizes},
     random::Random,
     seed::SEED_LEN,
+    shares::{FIVE_LEN, GIVEN_LEN, NONCE_LEN},
 };
+pub use elements::difference;
 pub use history::Calls;
 
 fn with_rows(call: Call, param: Param, rows: Vec<Row>) -> Case {
@@ -43,6 +45,29 @@ fn encode(random: &mut Random, call: Call) -> Case {
         written(random, param.t as usize),
     ];
     with_rows(call, param, rows)
+}
+
+fn cut(random: &mut Random) -> Case {
+    let mut param = params::for_rows(random);
+    let numbers = reports::numbers(random, &mut param);
+    let gradient = reports::gradient(random, &numbers, param.f);
+    let len = Sizes::of(&param).measurement;
+    let rows = vec![
+        Row::Doubles(gradient),
+        Row::Bytes(reports::any_stream(random, NONCE_LEN)),
+        Row::Bytes(reports::any_stream(random, FIVE_LEN)),
+        written(random, len),
+        written(random, len),
+        Row::WrittenBytes(random.bytes(GIVEN_LEN)),
+    ];
+    with_rows(Call::Cut, param, rows)
+}
+
+fn sample(random: &mut Random) -> Case {
+    let param = params::for_rows(random);
+    let sizes = Sizes::of(&param);
+    let rows = vec![Row::Bytes(reports::values(random, &sizes)), written(random, sizes.measurement)];
+    with_rows(Call::Sample, param, rows)
 }
 
 fn run_wr_tests(random: &mut Random, call: Call) -> Case {
@@ -113,6 +138,8 @@ pub fn case(random: &mut Random, call: Call) -> Case {
         Call::FieldToF64 => return singles::field_to_f64(random),
         Call::Encode | Call::EncodeSeed => encode(random, call),
         Call::RunWrTests | Call::RunWrTestsSeed => run_wr_tests(random, call),
+        Call::Cut => cut(random),
+        Call::Sample => sample(random),
         Call::Valid | Call::ValidSqNormEqual => circuit(random, call),
         Call::GradientPart | Call::CheckedPart | Call::ResultsPart => part(random, call),
         Call::EmptyAggregate => empty_aggregate(random),

@@ -7,6 +7,7 @@ use crate::{
     },
     param::{Param, Sizes, N, P},
     random::Random,
+    shares::{draws_len, MORE_DRAWS},
     whole::{self, SIGN},
 };
 
@@ -170,6 +171,28 @@ pub fn stream(random: &mut Random, numbers: &[i128], sizes: &Sizes, param: &Para
         }
     }
     stream
+}
+
+/// A stream for the sampler: of its values as many are to be skipped as may be or one more or less, few, or any.
+pub fn values(random: &mut Random, sizes: &Sizes) -> Vec<u8> {
+    let mut values = random.words(draws_len(sizes) / 8);
+    let skipped = match random.below(4) {
+        0 => random.index(values.len() + 1),
+        1 => random.index(4),
+        _ => MORE_DRAWS - 1 + random.index(3),
+    };
+    for value in &mut values[..skipped] {
+        let any = random.between(P, u64::MAX);
+        *value = random.pick(&[P, P, P + 1, u64::MAX, any]);
+    }
+    if !random.once_in(4) {
+        (1..values.len()).for_each(|place| values.swap(place, random.index(place + 1)));
+    }
+    if random.once_in(4) {
+        let at = random.index(values.len());
+        values[at] = random.pick(&[0, 1, P - 1]);
+    }
+    values.iter().flat_map(|x| x.to_le_bytes()).collect()
 }
 
 fn changed(random: &mut Random, x: u64) -> u64 {
