@@ -4,7 +4,7 @@ use mathlib.Core.Bool.{Bool, true, false, cond}
 use mathlib.Core.List.{List, [], _∷_, _++_}
 use Prim.Native.Nat.{ℕ, zero, suc, _+_, _*_, _%_, _≤_, _<_}
 use native.Mathlib.Omega.{arith}
-use lib.ListN.{length, take, drop}
+use lib.ListN.{length, take, drop, take-append-drop}
 use lib.Seq.{take-add}
 use lib.Dec.{eqb, ltb, leb}
 use lib.Ieee.{Float}
@@ -16,7 +16,7 @@ use Rattle.field64.specs.Field.{subMod}
 use Rattle.pine.specs.declared.PineParam.{PineParam}
 use Rattle.pine.specs.declared.record.Pine.{Pine}
 use Rattle.pine.specs.Param.{Field, paramAnswer}
-use Rattle.pine.specs.Record.{sqNormBits, sqNormBound, wrTestBits, wrTestBound, encodedInputLen, streamLen, pineOf}
+use Rattle.pine.specs.Record.{sqNormBits, sqNormBound, wrTestBits, wrTestBound, bitCheckedLen, encodedInputLen, streamLen, pineOf}
 use Rattle.pine.proofs.Limits.{limits, param-accepted}
 use Rattle.rows.specs.Rows.{Below, rowRule, subRows}
 use Rattle.rows.proofs.Lengths.{right-row, row-right}
@@ -127,24 +127,25 @@ module _ (F : Field) (i : PineParam) (g : List Float) (nonce seeds leader helper
       pub usable : Usable (F .floorLimit) (i .«frac_bits») g
       pub gradient-long : length g ≡ i .dimension
       pub dimension : (0 < i .dimension) × (i .dimension ≤ 65536)
-      pub tests : (0 < i .«num_wr_tests») × (i .«num_wr_tests» ≤ 256)
+      pub tests : i .«num_wr_tests» ≤ length helper
 
     pub ready : Ready
-    unfolding cutRules
+    unfolding cutRules encodedInputLen bitCheckedLen
     ready =
         let h = passed (take 8 rules) (none met) in
         let l = limits F i (h .0) in
+        let long : length helper ≡ encodedInputLen i = row-right 5 _ _ (h .1 .1 .1 .1 .0) in
         record {
           inputs = param-accepted F i (h .0);
           nonce-long = row-right 2 _ _ (h .1 .0);
           seeds-long = row-right 3 _ _ (h .1 .1 .0);
           leader-long = row-right 4 _ _ (h .1 .1 .1 .0);
-          helper-long = row-right 5 _ _ (h .1 .1 .1 .1 .0);
+          helper-long = long;
           given-long = row-right 6 _ _ (h .1 .1 .1 .1 .1 .0);
           usable = all-usable (F .floorLimit) (i .«frac_bits») 0 g (h .1 .1 .1 .1 .1 .1 .0);
           gradient-long = eqb-true _ _ (so _ 8 0 (h .1 .1 .1 .1 .1 .1 .1 .0));
           dimension = l .dimension;
-          tests = l .tests;
+          tests = omega (arith, long);
         }
 
     -- what the code has found of the norm
@@ -247,13 +248,15 @@ module _ (F : Field) (i : PineParam) (g : List Float) (nonce seeds leader helper
         whole-is : inOrder rules ≡ a
         whole-is = sym (answer-is ∙ same-answer)
 
-        pub tests-refused : (a .number ≡ 0 → ⊥) → cutOutcome a m₁ helper given ≡ cutOf F i g nonce seeds leader helper given
+        -- the results' row was the front of the helper's
+        pub tests-refused : (k : ℕ) → results ≡ take k helper → (a .number ≡ 0 → ⊥) → cutOutcome a m₁ (r₁ ++ drop k helper) given ≡ cutOf F i g nonce seeds leader helper given
         unfolding encodeOf
-        tests-refused h =
+        tests-refused k front h =
             let e = encodeAnswer F i g stream leader results in
             let out : encodeOf F i g stream leader results ≡ encodeOutcome e leader results = rw (ne-eqb (e .number) 0 (λ z. h (ap (λ (b : Answer). b .number) answer-is ∙ z))) in
             let kept : m₁ ≡ leader = ap (λ (o : Encoded). o .measurement) (call ∙ out) in
-            ap (λ (m : List ℕ). cutOutcome a m helper given) kept ∙ refused a whole-is h
+            let whole : r₁ ++ drop k helper ≡ helper = ap (λ (r : List ℕ). r ++ drop k helper) (ap (λ (o : Encoded). o .results) (call ∙ out) ∙ front) ∙ take-append-drop k helper in
+            (λ j. cutOutcome a (kept j) (whole j) given) ∙ refused a whole-is h
 
         module _ (z : a .number ≡ 0) where
           pub measured : m₁ ≡ measurementOf (F .p) i stream xs

@@ -59,7 +59,8 @@ fn squared_norm(gradient: &[f64], scale: f64, frac_bits: u64) -> Sum
     gradient::norm_and_tests(gradient, scale, frac_bits, per, &stream, &mut results[..0])
 }
 
-// Cutting from the tests on: rule 11 or 20 is encoding's, and the measurement goes to the leader's row.
+// Cutting from the tests on: rule 11 or 20 is encoding's. The measurement goes to the leader's row, and the tests' results,
+// which nobody wants, to the helper's; where encoding refuses, it leaves both.
 fn cut_from_tests(
     param: PineParam,
     gradient: &[f64],
@@ -74,14 +75,13 @@ fn cut_from_tests(
     requires { ⌜ wr ≡ wrSeed Field64 param (now gradient) (now nonce) (now seeds) ⌝ }
     ensures { λ r. ⌜ cutOutcome r (now (leader .exit)) (now (helper .exit)) (now (given .exit)) ≡ cutOf Field64 param (now (gradient .entry)) (now (nonce .entry)) (now (seeds .entry)) (now (leader .entry)) (now (helper .entry)) (now (given .entry)) ⌝ }
 {
-    let mut results = [0u64; 256];
     let tests = param.num_wr_tests as usize;
     let answer = encode::encode_with_wr_joint_rand_seed(
         param,
         gradient,
         &wr,
         leader,
-        &mut results[..tests],
+        &mut helper[..tests],
     );
     if answer.number != 0 {
         return answer;
