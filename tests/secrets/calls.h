@@ -187,14 +187,14 @@ static const struct {
     {33, 10, 2, 3037000499u, 0, {1, 10}, PINE_ENOUGH_TESTS, 0, 0},
     {33, 10, 0, 3037000499u, 0, {1, 10}, PINE_ENOUGH_TESTS, 0, 0}, /* any number of tests may miss */
     {33, 10, 0, 3037000499u, 30, {87, 10}, PINE_ENOUGH_TESTS, 1, 0},
+    {65, 256, 200, 1u << 20, 8, {87, 10}, PINE_ENOUGH_TESTS, 1, 0},
     {600, 3, 3, 1u << 26, 8, {87, 10}, PINE_EVERY_TEST, 0, 0},
     {600, 40, 10, 1u << 26, 8, {1, 2}, PINE_ENOUGH_TESTS, 0, 0},
     {4200, 20, 20, 1u << 26, 8, {87, 10}, PINE_EVERY_TEST, 1, 0}, /* a seed's tests go by tiles */
     {1, 1, 0, 3037000499u, 0, {87, 10}, PINE_ENOUGH_TESTS, 0, 1},
     {64, 6, 6, 1u << 20, 8, {87, 10}, PINE_EVERY_TEST, 0, 1},
-    {65, 256, 200, 1u << 20, 8, {87, 10}, PINE_ENOUGH_TESTS, 1, 1},
     {1027, 100, 100, 1u << 30, 20, {87, 10}, PINE_EVERY_TEST, 0, 1},
-    {20000, 100, 90, 1u << 30, 15, {87, 10}, PINE_ENOUGH_TESTS, 0, 1},
+    {20000, 40, 30, 1u << 30, 15, {87, 10}, PINE_ENOUGH_TESTS, 0, 1},
     {65536, 5, 5, 1u << 30, 15, {87, 10}, PINE_EVERY_TEST, 1, 1},
 };
 enum { CASES = sizeof cases / sizeof *cases };
@@ -324,32 +324,43 @@ static double number_of(int kind, double scale) {
     }
 }
 
-/* Fills every row that holds secrets with values of a kind. The seed is of no kind. */
-static void fill_rows(int kind) {
-    fill_gradient(kind);
+/* Fills the rows with secrets that a call reads with values of a kind. The seed is of no kind. */
+static void fill_rows(int kind, uint32_t rows) {
+    static const int of_elements[] = {SHARE, AGGREGATE, OTHER, BODIES};
+    size_t d = LEN8(GRADIENT), measured = LEN8(MEASUREMENT);
+    if (kind == LARGE || (rows & BIT(GRADIENT))) {
+        fill_gradient(kind);
+    }
     for (size_t i = 0; i < row[SEED].len; i++) {
         BYTES(SEED)[i] = (uint8_t)(draw() >> 56);
     }
-    size_t d = LEN8(GRADIENT), measured = LEN8(MEASUREMENT), full = LEN8(FULL);
-    int encoded = kind == LARGE && (encode(), given[0] == PINE_ACCEPTED);
-    for (size_t i = 0; i < full; i++) {
-        uint64_t own = !encoded ? draw_element() : i < measured ? WORDS(MEASUREMENT)[i] : WORDS(RESULTS)[i - measured];
-        WORDS(FULL)[i] = element_of(kind, own);
+    if (kind == LARGE) {
+        encode();
     }
-    for (size_t i = 0; i < d; i++) {
-        WORDS(SHARE)[i] = element_of(kind, WORDS(FULL)[i]);
-        WORDS(AGGREGATE)[i] = element_of(kind, WORDS(FULL)[i]);
-        WORDS(OTHER)[i] = kind == MIXED && i % 2 ? sub(draw() & 0xffffff, WORDS(AGGREGATE)[i])
-                                                 : element_of(kind, WORDS(FULL)[i]);
+    if (kind == LARGE || (rows & BIT(FULL))) {
+        int encoded = kind == LARGE && given[0] == PINE_ACCEPTED;
+        for (size_t i = 0; i < LEN8(FULL); i++) {
+            uint64_t own = !encoded ? draw_element() : i < measured ? WORDS(MEASUREMENT)[i] : WORDS(RESULTS)[i - measured];
+            WORDS(FULL)[i] = element_of(kind, own);
+        }
     }
-    for (size_t i = 0; i < LEN8(BODIES); i++) {
-        WORDS(BODIES)[i] = element_of(kind, WORDS(FULL)[i % d]);
+    if (rows & BIT(OLD_FILE)) {
+        rows |= BIT(BODIES);
     }
-    file_write();
-    if (given[0] != PINE_ACCEPTED) {
-        fprintf(stderr, "a file is refused\n");
-        exit(2);
+    for (size_t k = 0; k < sizeof of_elements / sizeof *of_elements; k++) {
+        for (size_t i = 0; (rows & BIT(of_elements[k])) && i < LEN8(of_elements[k]); i++) {
+            uint64_t sum = draw() & 0xffffff; /* of two aggregates, in every other place */
+            WORDS(of_elements[k])[i] = kind == MIXED && of_elements[k] == OTHER && i % 2 ? sub(sum, WORDS(AGGREGATE)[i])
+                                                                                         : element_of(kind, WORDS(FULL)[i % d]);
+        }
+    }
+    if (rows & BIT(OLD_FILE)) {
+        file_write();
+        if (given[0] != PINE_ACCEPTED) {
+            fprintf(stderr, "a file is refused\n");
+            exit(2);
+        }
     }
     *DOUBLES(COORDINATE) = number_of(kind, derived.pine.scale);
-    *WORDS(ELEMENT) = element_of(kind, WORDS(FULL)[0]);
+    *WORDS(ELEMENT) = element_of(kind, WORDS(FULL)[0] % P);
 }

@@ -3,13 +3,14 @@
  *              times beside the same public values, and a word there that is not the same every time depends on secrets.
  *              Prints CALL WORDS REGISTERS and, by kind, how many of the words are recognised: the most in any case
  *
- * LONG is 0 or 1: the short or the long form. CALL is the one to be made, without it all are. What the call gives, which lies in the caller's frame, is not counted. */
+ * LONG is 0 or 1: the short or the long form. CALL is the one to be made, without it all are. What the call gives lies in
+ * the caller's frame and is not counted. */
 #define _GNU_SOURCE 1
 #include "calls.h"
 
 #include <ucontext.h>
 
-enum { SIZE = 1 << 18, STACK = SIZE / 8, PAINT = 0xa5, RUNS = 6, REGISTERS = 32 };
+enum { SIZE = 1 << 18, STACK = SIZE / 8, PAINT = 0xa5, RUNS = 12, REGISTERS = 32 };
 
 static uint64_t stack[STACK] __attribute__((aligned(64)));
 static ucontext_t here, there;
@@ -218,14 +219,14 @@ static size_t tops[CALLS][2 + WORD_KINDS];
 
 static int measure(int call, int kind) {
     uint64_t before = drawn;
-    fill_rows(kind);
+    fill_rows(kind, calls[call].secret);
     calls[call].call();
     if (given[0] != PINE_ACCEPTED) {
         return 0;
     }
     drawn = before;
     this_run++;
-    fill_rows(kind);
+    fill_rows(kind, calls[call].secret);
     if (calls[call].secret & BIT(AGGREGATE)) {
         know_elements(WORDS(AGGREGATE), LEN8(AGGREGATE));
     }
@@ -269,7 +270,7 @@ static void count(int call) {
 }
 
 int main(int argc, char **argv) {
-    static const int some[RUNS] = {NONZERO, LARGE, MIXED, NONZERO, LARGE, POSITIVE};
+    static const int some[] = {NONZERO, LARGE, MIXED, NONZERO, LARGE, POSITIVE};
     int long_form = argc > 1 && argv[1][0] == '1';
     const char *only = argc > 2 ? argv[2] : NULL;
     for (int c = 0; c < CASES; c++) {
@@ -285,7 +286,7 @@ int main(int argc, char **argv) {
             memset(kind_at, ANY, sizeof kind_at), memset(highest, 0, sizeof highest);
             int runs = 0;
             for (int k = 0; k < 3 * RUNS && runs < RUNS; k++) {
-                if (measure(call, some[k % RUNS])) {
+                if (measure(call, some[k % 6])) {
                     compare(runs == 0);
                     runs++;
                 }

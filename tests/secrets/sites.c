@@ -26,12 +26,12 @@ static int long_form;
 /* Fills the rows; 1 if the call accepts them. They are then filled the same again. */
 static int ready(int call, int kind) {
     uint64_t before = drawn;
-    fill_rows(kind);
+    fill_rows(kind, calls[call].secret);
     uint64_t after = drawn;
     calls[call].call();
     int accepts = given[0] == PINE_ACCEPTED;
     drawn = before;
-    fill_rows(kind);
+    fill_rows(kind, calls[call].secret);
     drawn = after;
     return accepts;
 }
