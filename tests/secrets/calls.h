@@ -194,7 +194,7 @@ static const struct {
     {1, 1, 0, 3037000499u, 0, {87, 10}, PINE_ENOUGH_TESTS, 0, 1},
     {64, 6, 6, 1u << 20, 8, {87, 10}, PINE_EVERY_TEST, 0, 1},
     {1027, 100, 100, 1u << 30, 20, {87, 10}, PINE_EVERY_TEST, 0, 1},
-    {20000, 40, 30, 1u << 30, 15, {87, 10}, PINE_ENOUGH_TESTS, 0, 1},
+    {4300, 256, 200, 1u << 30, 15, {87, 10}, PINE_ENOUGH_TESTS, 0, 1},
     {65536, 5, 5, 1u << 30, 15, {87, 10}, PINE_EVERY_TEST, 1, 1},
 };
 enum { CASES = sizeof cases / sizeof *cases };
@@ -225,7 +225,8 @@ static void make_row(int r, size_t len, size_t from) {
 /* Makes the rows of a case, and fills those that hold no secrets. */
 static void make_rows(int c) {
     size_t d = cases[c].d, head = PINE_FILE_HEADER_LEN + ENTRIES * PINE_FILE_ENTRY_LEN;
-    param = pine_param_standard(cases[c].norm_bound, d, cases[c].frac_bits, d < 100 ? 16 : 150, 7, cases[c].t, cases[c].k);
+    param = pine_param_standard(cases[c].norm_bound, d, cases[c].frac_bits, d < 100 ? 16 : 150, 7, cases[c].t,
+                                cases[c].k);
     param.alpha_numerator = cases[c].alpha[0], param.alpha_denominator = cases[c].alpha[1];
     param.wr_test_rule = cases[c].rule, param.true_sq_norm = cases[c].true_sq_norm;
     num_shares = c % 3 == 0 ? 1 : c % 3 == 1 ? 2 : 255;
@@ -288,7 +289,8 @@ static void fill_gradient(int kind) {
     for (size_t i = 0; i < d; i++) {
         x[i] = coordinate_of(kind, each);
     }
-    if (kind == FAR && d > 8) { /* 2^96 = -1 modulo p, so these squares cancel: 2^50 and 4, 2^62 and 2^14, 5 * 2^48 and 5 */
+    if (kind == FAR && d > 8) {
+        /* 2^96 = -1 modulo p, so these squares cancel: 2^50 and 4, 2^62 and 2^14, 5 * 2^48 and 5 */
         static const double floors[] = {1125899906842624.0, 4, -4611686018427387904.0, 16384, -1407374883553280.0, 5};
         size_t at = draw() % (d - 8);
         for (size_t i = 0; i < 6; i++) {
@@ -313,9 +315,10 @@ static uint64_t element_of(int kind, uint64_t own) {
 
 /* One double whose floor is in the field's limits, near them too. */
 static double number_of(int kind, double scale) {
-    static const double edges[] = {0.0, 1.0, 0.3, 1e-300, 2.2250738585072014e-308, 4503599627370496.0, 4503599627370497.0,
-                                   1125899906842624.0, 1125899906842623.75, 1125899906842624.25, 2251799813685248.5, 1e5,
-                                   123456.789, 1e15, 1e17, 1.5e18, 9223372034707292160.0, 9223372034707291136.0, 8.5e18};
+    static const double edges[] = {
+        0.0, 1.0, 0.3, 1e-300, 2.2250738585072014e-308, 4503599627370496.0, 4503599627370497.0, 1125899906842624.0,
+        1125899906842623.75, 1125899906842624.25, 2251799813685248.5, 1e5, 123456.789, 1e15, 1e17, 1.5e18,
+        9223372034707292160.0, 9223372034707291136.0, 8.5e18};
     double edge = edges[draw() % (sizeof edges / sizeof *edges)];
     switch (kind) {
     case LARGE: return draw_sign() * edge / scale;
@@ -340,8 +343,8 @@ static void fill_rows(int kind, uint32_t rows) {
     if (kind == LARGE || (rows & BIT(FULL))) {
         int encoded = kind == LARGE && given[0] == PINE_ACCEPTED;
         for (size_t i = 0; i < LEN8(FULL); i++) {
-            uint64_t own = !encoded ? draw_element() : i < measured ? WORDS(MEASUREMENT)[i] : WORDS(RESULTS)[i - measured];
-            WORDS(FULL)[i] = element_of(kind, own);
+            uint64_t own = i < measured ? WORDS(MEASUREMENT)[i] : WORDS(RESULTS)[i - measured];
+            WORDS(FULL)[i] = element_of(kind, encoded ? own : draw_element());
         }
     }
     if (rows & BIT(OLD_FILE)) {
@@ -350,8 +353,8 @@ static void fill_rows(int kind, uint32_t rows) {
     for (size_t k = 0; k < sizeof of_elements / sizeof *of_elements; k++) {
         for (size_t i = 0; (rows & BIT(of_elements[k])) && i < LEN8(of_elements[k]); i++) {
             uint64_t sum = draw() & 0xffffff; /* of two aggregates, in every other place */
-            WORDS(of_elements[k])[i] = kind == MIXED && of_elements[k] == OTHER && i % 2 ? sub(sum, WORDS(AGGREGATE)[i])
-                                                                                         : element_of(kind, WORDS(FULL)[i % d]);
+            int by_sum = kind == MIXED && of_elements[k] == OTHER && i % 2;
+            WORDS(of_elements[k])[i] = by_sum ? sub(sum, WORDS(AGGREGATE)[i]) : element_of(kind, WORDS(FULL)[i % d]);
         }
     }
     if (rows & BIT(OLD_FILE)) {

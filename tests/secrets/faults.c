@@ -7,7 +7,8 @@ PineAnswer __wrap_pine_unmerge(PineParam, uint64_t *, size_t, const uint64_t *, 
 static volatile uint64_t seen;
 static volatile uint64_t table[8];
 
-PineAnswer __wrap_pine_unmerge(PineParam param, uint64_t *agg, size_t agg_len, const uint64_t *other, size_t other_len) {
+PineAnswer __wrap_pine_unmerge(PineParam param, uint64_t *agg, size_t agg_len, const uint64_t *other,
+                               size_t other_len) {
     PineAnswer answer = __real_pine_unmerge(param, agg, agg_len, other, other_len);
     uint64_t secret = other_len > 0 ? other[0] : 0;
     volatile uint64_t word = 0;

@@ -1,10 +1,10 @@
-/* left LONG [CALL]
- *              what accepting calls leave of secrets on their stack: each is run on a painted stack of its own, several
- *              times beside the same public values, and a word there that is not the same every time depends on secrets.
- *              Prints CALL WORDS REGISTERS and, by kind, how many of the words are recognised: the most in any case
+/* left LONG [CALL]    what accepting calls leave of secrets on their stack: each is run on a painted stack of its own,
+ *                     several times beside the same public values, and a word there that is not the same every time
+ *                     depends on secrets. Prints CALL WORDS REGISTERS and, by kind, how many of the words are
+ *                     recognised: the most in any case
  *
- * LONG is 0 or 1: the short or the long form. CALL is the one to be made, without it all are. What the call gives lies in
- * the caller's frame and is not counted. */
+ * LONG is 0 or 1: the short or the long form. CALL is the one to be made, without it all are. What the call gives lies
+ * in the caller's frame and is not counted. */
 #define _GNU_SOURCE 1
 #include "calls.h"
 
@@ -25,7 +25,8 @@ static __attribute__((noinline)) void frame(void) {
 
 /* With nothing in the registers that the call may save, or leave. */
 static void run(void) {
-    __asm__ volatile("xor %%ebx, %%ebx; xor %%r12d, %%r12d; xor %%r13d, %%r13d; xor %%r14d, %%r14d; xor %%r15d, %%r15d\n"
+    __asm__ volatile("xor %%ebx, %%ebx; xor %%r12d, %%r12d; xor %%r13d, %%r13d\n"
+                     "xor %%r14d, %%r14d; xor %%r15d, %%r15d\n"
                      "pxor %%xmm0, %%xmm0; pxor %%xmm1, %%xmm1; pxor %%xmm2, %%xmm2; pxor %%xmm3, %%xmm3\n"
                      "pxor %%xmm4, %%xmm4; pxor %%xmm5, %%xmm5; pxor %%xmm6, %%xmm6; pxor %%xmm7, %%xmm7\n"
                      "pxor %%xmm8, %%xmm8; pxor %%xmm9, %%xmm9; pxor %%xmm10, %%xmm10; pxor %%xmm11, %%xmm11\n"
@@ -49,8 +50,8 @@ static void on_painted_stack(void (*call)(void)) {
 /* ---- words that are recognised */
 
 enum { COORDINATES, ELEMENTS, TABLE, RESULT, NORM, SEED_WORD, STREAM_WORD, STATE, WEIGHT, ANY, WORD_KINDS };
-static const char *const word_kinds[] = {"coordinates", "elements", "tables", "results", "norm", "seed", "stream", "state",
-                                         "weights", "other"};
+static const char *const word_kinds[] = {"coordinates", "elements", "tables", "results", "norm",
+                                         "seed",        "stream",   "state",  "weights", "other"};
 enum { KNOWN = 1 << 23 };
 static struct {
     uint64_t word;
@@ -58,6 +59,7 @@ static struct {
     uint32_t kind;
 } known[KNOWN];
 static uint32_t this_run;
+static size_t filled; /* places, in this run */
 
 static size_t place_of(uint64_t word) {
     size_t at = (size_t)((word * 0x9e3779b97f4a7c15u) >> 41);
@@ -71,6 +73,10 @@ static void know(uint64_t word, uint32_t kind) {
     size_t at = place_of(word);
     if (word >= 4096 && known[at].run != this_run) { /* smaller ones are everywhere */
         known[at].word = word, known[at].run = this_run, known[at].kind = kind;
+        if (++filled > KNOWN / 2) {
+            fprintf(stderr, "left: more words to be recognised than there is room for\n");
+            exit(1);
+        }
     }
 }
 
@@ -103,8 +109,8 @@ static void know_doubles(const double *x, size_t len) {
     }
 }
 
-static void know_bytes(const uint8_t *bytes, size_t len, uint32_t kind) {
-    for (size_t i = 0; i + 8 <= len; i++) {
+static void know_bytes(const uint8_t *bytes, size_t len, size_t step, uint32_t kind) {
+    for (size_t i = 0; i + 8 <= len; i += step) {
         uint64_t word;
         memcpy(&word, bytes + i, 8);
         know(word, kind);
@@ -122,8 +128,9 @@ static uint64_t turned(uint64_t x, int by) { return by == 0 ? x : x << by | x >>
 /* Keccak-p[1600, 12]; what comes up on the way is known as the state */
 static void permute(uint64_t a[25]) {
     static const uint64_t constants[12] = {
-        0x000000008000808b, 0x800000000000008b, 0x8000000000008089, 0x8000000000008003, 0x8000000000008002, 0x8000000000000080,
-        0x000000000000800a, 0x800000008000000a, 0x8000000080008081, 0x8000000000008080, 0x0000000080000001, 0x8000000080008008};
+        0x000000008000808b, 0x800000000000008b, 0x8000000000008089, 0x8000000000008003,
+        0x8000000000008002, 0x8000000000000080, 0x000000000000800a, 0x800000008000000a,
+        0x8000000080008081, 0x8000000000008080, 0x0000000080000001, 0x8000000080008008};
     for (int round = 0; round < 12; round++) {
         uint64_t c[5], b[25];
         for (int x = 0; x < 5; x++) {
@@ -162,8 +169,8 @@ static void know_sponge(void) {
         permute(lanes);
         memcpy(drawn_bytes + 168 * k, lanes, 168);
     }
-    know_bytes(row[SEED].at, row[SEED].len, SEED_WORD);
-    know_bytes(drawn_bytes, 168 * blocks, STREAM_WORD);
+    know_bytes(row[SEED].at, row[SEED].len, 1, SEED_WORD);
+    know_bytes(drawn_bytes, 168 * blocks, 1, STREAM_WORD);
     free(drawn_bytes);
 }
 
@@ -204,7 +211,10 @@ static void know_rows(int call) {
         know_sponge();
     }
     if (rows & (BIT(OLD_FILE) | BIT(NEW_FILE))) {
-        know_bytes(BYTES(OLD_FILE), row[OLD_FILE].len, ELEMENTS), know_bytes(BYTES(NEW_FILE), row[NEW_FILE].len, ELEMENTS);
+        size_t from = row[OLD_FILE].from, next = from + PINE_FILE_ENTRY_LEN; /* there with an entry more */
+        know_bytes(BYTES(OLD_FILE) + from, row[OLD_FILE].len - from, 8, ELEMENTS);
+        know_bytes(BYTES(NEW_FILE) + from, row[NEW_FILE].len - from, 8, ELEMENTS);
+        know_bytes(BYTES(NEW_FILE) + next, row[NEW_FILE].len - next, 8, ELEMENTS);
     }
     for (size_t i = 2; i < given_len / 8; i++) {
         know(given[i], ELEMENTS);
@@ -225,7 +235,7 @@ static int measure(int call, int kind) {
         return 0;
     }
     drawn = before;
-    this_run++;
+    this_run++, filled = 0;
     fill_rows(kind, calls[call].secret);
     if (calls[call].secret & BIT(AGGREGATE)) {
         know_elements(WORDS(AGGREGATE), LEN8(AGGREGATE));

@@ -5,8 +5,8 @@
  *                                one    it went one way in every accepted call
  *                                same   it went both ways, but in one order whatever the secrets were, the rest alike
  *                                leak   secrets decided which way
- * sites trace LONG           single-steps each accepting call: how many steps, and how many different ways through the
- *                            code there were beside the same public values
+ * sites trace LONG           single-steps accepting calls of at most 33 coordinates: how many steps, and how many
+ *                            different ways through the code there were beside the same public values
  *
  * LONG is 0 or 1: the short or the long form. CALL is the one to be made, without it all are. */
 #define _GNU_SOURCE 1
@@ -38,14 +38,14 @@ static int ready(int call, int kind) {
 
 static size_t accepted, refused;
 
-/* For each case and kind: make(call, case) where the call accepts. */
-static void each_call(int call, size_t most_d, void (*make)(int call, int c)) {
+/* For each case and kind, so many times: make(call, case) where the call accepts. */
+static void each_call(int call, size_t most_d, int most_times, void (*make)(int call, int c)) {
     for (int c = 0; c < CASES; c++) {
         if ((cases[c].long_form && !long_form) || cases[c].d > most_d) {
             continue;
         }
         make_rows(c);
-        int times = calls[call].secret == 0 ? 1 : cases[c].d > 1000 ? 1 : long_form ? 6 : 2;
+        int times = calls[call].secret == 0 || cases[c].d > 1000 ? 1 : most_times;
         for (int kind = 0; kind < KINDS; kind++) {
             for (int k = 0; k < times * calls[call].times; k++) {
                 if (ready(call, kind)) {
@@ -91,7 +91,7 @@ static void complain(int call, uint32_t rows) {
         }
         VALGRIND_PRINTF("call %s %s\n", calls[call].name, names);
         undefined = rows;
-        each_call(call, 65536, make_undefined);
+        each_call(call, PINE_MAX_DIMENSION, long_form ? 6 : 2, make_undefined);
         if (rows == calls[call].secret) {
             printf("%-31s %6zu accepted, %5zu refused\n", calls[call].name, accepted, refused);
         }
@@ -122,6 +122,7 @@ static void memcheck(const char *only) {
 
 /* ---- ways: the first byte of each branch is made a trap, and the trap does what the branch would */
 
+extern char __executable_start, etext; /* of the linker: this program's own code lies between */
 enum { SITES = 4096 };
 static struct {
     const char *call;
@@ -138,7 +139,8 @@ static size_t sites;
 static int of_call[SITES], sites_of_call;
 
 static int holds(uint8_t condition, uint64_t flags) {
-    int carry = flags & 1, parity = flags >> 2 & 1, zero = flags >> 6 & 1, sign = flags >> 7 & 1, over = flags >> 11 & 1;
+    int carry = flags & 1, parity = flags >> 2 & 1, zero = flags >> 6 & 1, sign = flags >> 7 & 1;
+    int over = flags >> 11 & 1;
     int of[8] = {over, carry, zero, carry | zero, sign, parity, sign != over, zero | (sign != over)};
     return of[condition >> 1] != (condition & 1);
 }
@@ -180,7 +182,7 @@ static int decode(size_t s) {
 
 static void writable(uint8_t *at) {
     uint8_t *page = (uint8_t *)((uintptr_t)at & ~(uintptr_t)4095);
-    if (mprotect(page, 8192, PROT_READ | PROT_WRITE | PROT_EXEC) != 0) {
+    if (mprotect(page, 4096, PROT_READ | PROT_WRITE | PROT_EXEC) != 0) {
         perror("sites: mprotect");
         exit(2);
     }
@@ -220,14 +222,14 @@ static void ways(const char *file) {
         exit(2);
     }
     while (fscanf(from, "%63s %lx", name, &address) == 2 && sites < SITES) {
-        site[sites].call = strdup(name), site[sites].at = (uint8_t *)address, site[sites].was = *(uint8_t *)address;
-        site[sites].first_case = -1;
-        if (decode(sites)) {
-            writable(site[sites].at);
-            sites++;
-        } else {
-            printf("%s %lx no-branch leak\n", name, address);
+        site[sites].call = strdup(name), site[sites].at = (uint8_t *)address, site[sites].first_case = -1;
+        if (address < (uintptr_t)&__executable_start || address >= (uintptr_t)&etext || !decode(sites)) {
+            printf("%s %lx unknown leak\n", name, address); /* in a library */
+            continue;
         }
+        site[sites].was = *site[sites].at;
+        writable(site[sites].at);
+        sites++;
     }
     fclose(from);
     struct sigaction action = {.sa_sigaction = trapped, .sa_flags = SA_SIGINFO};
@@ -240,7 +242,7 @@ static void ways(const char *file) {
             }
         }
         if (sites_of_call > 0) {
-            each_call(call, 65536, follow);
+            each_call(call, PINE_MAX_DIMENSION, long_form ? 6 : 2, follow);
         }
     }
     for (size_t s = 0; s < sites; s++) {
@@ -259,11 +261,22 @@ static struct {
 } traced;
 static int traced_case, traced_call;
 
+static void on_path(greg_t word) {
+    path = (path ^ (uint64_t)word) * 0x100000001b3u;
+    path ^= path >> 29;
+}
+
+/* The addresses of the instructions, and the dividends of integer divisions, which take longer for some. */
 static void stepped(int signal, siginfo_t *info, void *context) {
     (void)signal, (void)info;
+    const greg_t *r = ((ucontext_t *)context)->uc_mcontext.gregs;
+    const uint8_t *at = (const uint8_t *)r[REG_RIP];
+    at += (*at & 0xf0) == 0x40; /* REX */
     steps++;
-    path = (path ^ (uint64_t)((ucontext_t *)context)->uc_mcontext.gregs[REG_RIP]) * 0x100000001b3u;
-    path ^= path >> 29;
+    on_path(r[REG_RIP]);
+    if (at[0] == 0xf7 && (at[1] >> 3 & 7) >= 6) { /* div, idiv */
+        on_path(r[REG_RAX]), on_path(r[REG_RDX]);
+    }
 }
 
 static void print_trace(void) {
@@ -301,9 +314,9 @@ static void step(int call, int c) {
 static void trace(void) {
     struct sigaction action = {.sa_sigaction = stepped, .sa_flags = SA_SIGINFO};
     sigaction(SIGTRAP, &action, NULL);
-    memset(&traced, 0, sizeof traced);
+    print_trace();
     for (int call = 0; call < CALLS; call++) {
-        each_call(call, long_form ? 1027 : 600, step);
+        each_call(call, 33, 1, step); /* a step takes long */
     }
     print_trace();
 }
