@@ -38,8 +38,11 @@ const WR_BLIND_0: usize = 3;
 
 const VF_BLIND_0: usize = 4;
 
-// The elements of a piece.
-const PIECE: usize = 128;
+// The elements of a piece of the gradient, as many as the sampler draws at a time.
+const PIECE: usize = 63;
+
+// The elements of a row for a piece: a number's bits have room.
+const ROW: usize = 64;
 
 // The state of both wraparound parts, and of the stream of the helper's share, with the draws that are left.
 pub struct Parts {
@@ -120,10 +123,10 @@ fn take_both(from: Parts, helper: &mut [u64], row: &mut [u64]) -> Parts
 // The next elements of the measurement, of which the row is spoilt.
 fn take_piece(from: Parts, row: &mut [u64]) -> Parts
     requires { ⌜ Placed from × (length (now row) ≤ length (helperRest p64 from)) ⌝ }
-    requires { ⌜ Below p64 (now row) × (length (now row) ≤ 128) ⌝ }
+    requires { ⌜ Below p64 (now row) × (length (now row) ≤ 64) ⌝ }
     ensures { λ r. ⌜ TookPiece p64 from r (now (row .entry)) ⌝ }
 {
-    let mut helper = [0u64; PIECE];
+    let mut helper = [0u64; ROW];
     let n = row.len();
     take_both(from, &mut helper[..n], row)
 }
@@ -132,7 +135,7 @@ fn take_piece(from: Parts, row: &mut [u64]) -> Parts
 fn take_elements(from: Parts, part: &[f64], scale: f64, frac_bits: u64, row: &mut [u64]) -> Parts
     requires { ⌜ Placed from × (length (now part) ≤ length (helperRest p64 from)) ⌝ }
     requires { ⌜ Usable floorLimit64 «frac_bits» (now part) × (scale ≡ power «frac_bits») ⌝ }
-    requires { ⌜ (length (now row) ≡ length (now part)) × (length (now part) ≤ 128) ⌝ }
+    requires { ⌜ (length (now row) ≡ length (now part)) × (length (now part) ≤ 64) ⌝ }
     ensures { λ r. ⌜ TookPiece p64 from r (elements p64 «frac_bits» (now (part .entry))) ⌝ }
 {
     measurement::write_elements(part, scale, frac_bits, row);
@@ -145,7 +148,7 @@ fn take_gradient(from: Parts, gradient: &[f64], scale: f64, frac_bits: u64) -> P
     requires { ⌜ Usable floorLimit64 «frac_bits» (now gradient) × (scale ≡ power «frac_bits») ⌝ }
     ensures { λ r. ⌜ TookPiece p64 from r (elements p64 «frac_bits» (now (gradient .entry))) ⌝ }
 {
-    let mut row = [0u64; PIECE];
+    let mut row = [0u64; ROW];
     let mut parts = from;
     let mut at = 0;
     while at < gradient.len() {
@@ -160,7 +163,7 @@ fn take_gradient(from: Parts, gradient: &[f64], scale: f64, frac_bits: u64) -> P
 // The bits of a number, with a row of as many.
 fn take_bits(from: Parts, value: u64, row: &mut [u64]) -> Parts
     requires { ⌜ Placed from × (length (now row) ≤ length (helperRest p64 from)) ⌝ }
-    requires { ⌜ length (now row) ≤ 128 ⌝ }
+    requires { ⌜ length (now row) ≤ 64 ⌝ }
     ensures { λ r. ⌜ TookPiece p64 from r (bits (length (now (row .entry))) value) ⌝ }
 {
     measurement::write_bits(value, row);
@@ -170,10 +173,10 @@ fn take_bits(from: Parts, value: u64, row: &mut [u64]) -> Parts
 // q bits of a number.
 fn take_number(from: Parts, q: usize, value: u64) -> Parts
     requires { ⌜ Placed from × (q ≤ length (helperRest p64 from)) ⌝ }
-    requires { ⌜ q ≤ 128 ⌝ }
+    requires { ⌜ q ≤ 64 ⌝ }
     ensures { λ r. ⌜ TookPiece p64 from r (bits q value) ⌝ }
 {
-    let mut row = [0u64; PIECE];
+    let mut row = [0u64; ROW];
     take_bits(from, value, &mut row[..q])
 }
 

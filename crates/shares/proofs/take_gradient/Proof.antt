@@ -18,7 +18,7 @@ use Rattle.shares.proofs.take_gradient.Statement.{statement}
 use Rattle.shares.proofs.take_gradient.Tie as tie
 
 abbrev Inv-loop : tie.InvT-loop
-Inv-loop gradient scale frac-bits row₀ parts₀ at₀ row parts at = ((length row ≡ 128) × (at ≤ length gradient)) × TookPiece p64 parts₀ parts (elements p64 frac-bits (take at gradient))
+Inv-loop gradient scale frac-bits row₀ parts₀ at₀ row parts at = ((length row ≡ 64) × (at ≤ length gradient)) × TookPiece p64 parts₀ parts (elements p64 frac-bits (take at gradient))
 
 abbrev μ-loop : tie.MeasureT-loop
 μ-loop gradient scale frac-bits row₀ parts₀ at₀ row parts at = length gradient - at

@@ -14,15 +14,15 @@ array-borrow-prefix-row : tie.Need-array-borrow-prefix-row
 array-borrow-prefix-row c = search needs
 
 slice-aggregate-take-bits : tie.Need-slice-aggregate-take-bits
-slice-aggregate-take-bits c = sym (part-long 128 (c .before .args .q) (c .before .pre .1))
+slice-aggregate-take-bits c = sym (part-long 64 (c .before .args .q) (c .before .pre .1))
 
 take-bits-requires : tie.Need-take-bits-requires
 take-bits-requires c κs =
-    let long = part-long 128 (c .before .args .q) (c .before .pre .1) in
+    let long = part-long 64 (c .before .args .q) (c .before .pre .1) in
     ((c .before .pre .0 .0, omega (arith, long, c .before .pre .0 .1)), omega (arith, long, c .before .pre .1))
 
 returns : tie.Need-returns
-returns c = subst (λ (n : ℕ). TookPiece p64 (c .before .before .before .args .from) (c .before .take-bits .result) (bits n (c .before .before .before .args .value))) (part-long 128 (c .before .before .before .args .q) (c .before .before .before .pre .1)) (c .before .take-bits .ensures)
+returns c = subst (λ (n : ℕ). TookPiece p64 (c .before .before .before .args .from) (c .before .take-bits .result) (bits n (c .before .before .before .args .value))) (part-long 64 (c .before .before .before .args .q) (c .before .before .before .pre .1)) (c .before .take-bits .ensures)
 
 pub take-number-spec : {M : Type 1} → statement M
 take-number-spec =

@@ -10,10 +10,10 @@ array-borrow-prefix-helper : tie.Need-array-borrow-prefix-helper
 array-borrow-prefix-helper c = search needs
 
 slice-aggregate-take-both : tie.Need-slice-aggregate-take-both
-slice-aggregate-take-both c = sym (part-long 128 (length (c .before .before .args .row .now)) (c .before .before .pre .1 .1))
+slice-aggregate-take-both c = sym (part-long 64 (length (c .before .before .args .row .now)) (c .before .before .pre .1 .1))
 
 take-both-requires : tie.Need-take-both-requires
-take-both-requires c κs = (c .before .before .before .pre .0, (c .before .before .before .pre .1 .0, part-long 128 (length (c .before .before .before .args .row .now)) (c .before .before .before .pre .1 .1)))
+take-both-requires c κs = (c .before .before .before .pre .0, (c .before .before .before .pre .1 .0, part-long 64 (length (c .before .before .before .args .row .now)) (c .before .before .before .pre .1 .1)))
 
 same-length : tie.Need-same-length
 same-length c = search needs
