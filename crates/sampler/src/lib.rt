@@ -19,8 +19,8 @@ ghost use Rattle.sampler.specs.Drawing.{toCome, DrewNext, DrewFrom};
 // So many values are drawn at most beyond those that are wanted.
 pub const MORE_DRAWS: u64 = 64;
 
-// The values that are drawn at a time.
-const PIECE: usize = 64;
+// The values that are drawn at a time: three blocks of a sponge.
+const PIECE: usize = 63;
 
 // A stream after draws, how many are still allowed, and how many values were taken.
 pub struct Draws {
@@ -56,7 +56,7 @@ fn read_and_keep(bytes: &[u8], row: &mut [u64]) -> usize
 
 // How many values to draw next: no more than are wanted, so that each that is kept has its place in the row.
 fn next_draws(wanted: usize, left: usize) -> usize
-    ensures { λ r. ⌜ r ≡ min (min wanted left) 64 ⌝ }
+    ensures { λ r. ⌜ r ≡ min (min wanted left) 63 ⌝ }
 {
     groups::at_most(groups::at_most(wanted, left), PIECE)
 }
@@ -81,7 +81,7 @@ fn draw_next(from: Draws, bytes: &mut [u8], row: &mut [u64]) -> Draws
 
 // The same until the row is full, or no draw is left.
 fn draw_by(stream: Sponge, left: usize, bytes: &mut [u8], row: &mut [u64]) -> Draws
-    requires { ⌜ (stream .at < 168) × (length (now bytes) ≡ 512) ⌝ }
+    requires { ⌜ (stream .at < 168) × (length (now bytes) ≡ 504) ⌝ }
     ensures { λ r. ⌜ DrewFrom p64 stream left r (now (row .exit)) ⌝ }
 {
     let mut drew = Draws {

@@ -1,6 +1,6 @@
 -- The helper's values, and the seeds that the parts make. Assumes nothing.
 use mathlib.Core.Path.{_≡_, refl, sym, ap, ap₂, subst, _∙_}
-use mathlib.Core.List.{List, [], _∷_, _++_, append-assoc}
+use mathlib.Core.List.{List, [], _∷_, _++_}
 use Prim.Native.Nat.{ℕ, zero, suc, _+_, _-_, _*_, _≤_, _<_}
 use native.Mathlib.Omega.{arith}
 use lib.ListN.{length, take, drop, length-append}
@@ -33,7 +33,6 @@ use Rattle.joint_rand.proofs.Parts.{absorbed-more, part-is}
 use Rattle.shares.specs.declared.Parts.{Parts}
 use Rattle.shares.specs.Shares.{seedAt, wrBlind₀, wrBlind₁, helperStream, gradientAndNormLen, withNorm, gradientAndNorm, helperShare, helperFront, wrSeed}
 use Rattle.shares.specs.Pieces.{helperRest, Begun, TookPiece}
-use Rattle.shares.proofs.Taking.{took-both}
 
 -- ---- the five seeds
 
@@ -115,13 +114,12 @@ module _ (F : Field) (i : PineParam) (g : List Float) (nonce seeds : List ℕ) (
   front-within = omega arith
 
   -- the elements of a gradient, then v, then u
-  pub took-front : (a b c d : Parts) (v u : ℕ) → v ≡ sqNorm (F .p) xs → u ≡ subMod (F .p) (sqNormBound i) v → TookPiece (F .p) a b xs → TookPiece (F .p) b c (bits (sqNormBits i) v) → TookPiece (F .p) c d (bits (sqNormBits i) u)
-      → TookPiece (F .p) a d (gradientAndNorm F i g)
+  pub took-front : (a b : Parts) (v u : ℕ) → v ≡ sqNorm (F .p) xs → u ≡ subMod (F .p) (sqNormBound i) v → TookPiece (F .p) a b (xs ++ (bits (sqNormBits i) v ++ bits (sqNormBits i) u)) → TookPiece (F .p) a b (gradientAndNorm F i g)
   unfolding gradientAndNorm
-  took-front a b c d v u ev eu t₁ t₂ t₃ =
+  took-front a b v u ev eu t =
       let w : ℕ → List ℕ = λ k. bits (sqNormBits i) k in
-      let all : (xs ++ w v) ++ w u ≡ withNorm (F .p) i xs = append-assoc xs (w v) (w u) ∙ (λ j. xs ++ (w (ev j) ++ w ((eu ∙ ap (subMod (F .p) (sqNormBound i)) ev) j))) in
-      subst (TookPiece (F .p) a d) all (took-both (F .p) a c d (xs ++ w v) (w u) (took-both (F .p) a b c xs (w v) t₁ t₂) t₃)
+      let all : xs ++ (w v ++ w u) ≡ withNorm (F .p) i xs = λ j. xs ++ (w (ev j) ++ w ((eu ∙ ap (subMod (F .p) (sqNormBound i)) ev) j)) in
+      subst (TookPiece (F .p) a b) all t
 
   module _ (begun parts : Parts) (b : Begun nonce seeds (drawLimit n) begun) (is : drawn (8 * drawLimit n) (begun .stream) ≡ helperStream n seeds) (met : drawsRule (F .p) n (helperStream n seeds) ≡ accepted) where
     -- the helper's values, before the first piece

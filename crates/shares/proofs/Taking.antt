@@ -53,6 +53,10 @@ module _ (p : ℕ) where
         placed = e .placed;
       }
 
+  -- and a third
+  pub took-three : (a b c d : Parts) (xs ys zs : List ℕ) → TookPiece p a b xs → TookPiece p b c ys → TookPiece p c d zs → TookPiece p a d (xs ++ (ys ++ zs))
+  took-three a b c d xs ys zs t u v = took-both a b d xs (ys ++ zs) t (took-both b c d ys zs u v)
+
   -- how many of the helper's values are left
   pub left-after : (a b : Parts) (xs : List ℕ) → TookPiece p a b xs → length (helperRest p b) ≡ length (helperRest p a) - length xs
   left-after a b xs d = ap length (d .rest) ∙ length-drop (length xs) (helperRest p a)

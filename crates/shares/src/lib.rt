@@ -38,8 +38,11 @@ const WR_BLIND_0: usize = 3;
 
 const VF_BLIND_0: usize = 4;
 
-// The elements of a piece.
-const PIECE: usize = 64;
+// The elements of a piece of the gradient, as many as the sampler draws at a time.
+const PIECE: usize = 63;
+
+// The elements of a row for a piece: a number's bits have room.
+const ROW: usize = 64;
 
 // The state of both wraparound parts, and of the stream of the helper's share, with the draws that are left.
 pub struct Parts {
@@ -123,7 +126,7 @@ fn take_piece(from: Parts, row: &mut [u64]) -> Parts
     requires { ⌜ Below p64 (now row) × (length (now row) ≤ 64) ⌝ }
     ensures { λ r. ⌜ TookPiece p64 from r (now (row .entry)) ⌝ }
 {
-    let mut helper = [0u64; PIECE];
+    let mut helper = [0u64; ROW];
     let n = row.len();
     take_both(from, &mut helper[..n], row)
 }
@@ -139,24 +142,6 @@ fn take_elements(from: Parts, part: &[f64], scale: f64, frac_bits: u64, row: &mu
     take_piece(from, row)
 }
 
-// The gradient's elements.
-fn take_gradient(from: Parts, gradient: &[f64], scale: f64, frac_bits: u64) -> Parts
-    requires { ⌜ Placed from × (length (now gradient) ≤ length (helperRest p64 from)) ⌝ }
-    requires { ⌜ Usable floorLimit64 «frac_bits» (now gradient) × (scale ≡ power «frac_bits») ⌝ }
-    ensures { λ r. ⌜ TookPiece p64 from r (elements p64 «frac_bits» (now (gradient .entry))) ⌝ }
-{
-    let mut row = [0u64; PIECE];
-    let mut parts = from;
-    let mut at = 0;
-    while at < gradient.len() {
-        let n = groups::at_most(gradient.len() - at, PIECE);
-        let end = at + n;
-        parts = take_elements(parts, &gradient[at..end], scale, frac_bits, &mut row[..n]);
-        at = end;
-    }
-    parts
-}
-
 // The bits of a number, with a row of as many.
 fn take_bits(from: Parts, value: u64, row: &mut [u64]) -> Parts
     requires { ⌜ Placed from × (length (now row) ≤ length (helperRest p64 from)) ⌝ }
@@ -167,14 +152,33 @@ fn take_bits(from: Parts, value: u64, row: &mut [u64]) -> Parts
     take_piece(from, row)
 }
 
-// q bits of a number.
-fn take_number(from: Parts, q: usize, value: u64) -> Parts
-    requires { ⌜ Placed from × (q ≤ length (helperRest p64 from)) ⌝ }
+// The gradient's elements, then q bits of v and of u. One row serves every piece.
+fn take_all(
+    from: Parts,
+    gradient: &[f64],
+    scale: f64,
+    frac_bits: u64,
+    q: usize,
+    v: u64,
+    u: u64,
+) -> Parts
+    requires { ⌜ Placed from × (length (now gradient) + 2 * q ≤ length (helperRest p64 from)) ⌝ }
+    requires { ⌜ Usable floorLimit64 «frac_bits» (now gradient) × (scale ≡ power «frac_bits») ⌝ }
     requires { ⌜ q ≤ 64 ⌝ }
-    ensures { λ r. ⌜ TookPiece p64 from r (bits q value) ⌝ }
+    ensures { λ r. ⌜ TookPiece p64 from r (elements p64 «frac_bits» (now (gradient .entry)) ++ (bits q v ++ bits q u)) ⌝ }
 {
-    let mut row = [0u64; PIECE];
-    take_bits(from, value, &mut row[..q])
+    let mut row = [0u64; ROW];
+    let mut parts = from;
+    let mut at = 0;
+    while at < gradient.len() {
+        let n = groups::at_most(gradient.len() - at, PIECE);
+        let end = at + n;
+        parts = take_elements(parts, &gradient[at..end], scale, frac_bits, &mut row[..n]);
+        at = end;
+    }
+    parts = take_bits(parts, v, &mut row[..q]);
+    parts = take_bits(parts, u, &mut row[..q]);
+    parts
 }
 
 // The wraparound seed of a gradient whose squared norm modulo p is v.
@@ -194,10 +198,9 @@ pub fn wr_seed(
 {
     let most = (pine.encoded_input_len + sampler::MORE_DRAWS) as usize;
     let begun = begin_parts(nonce, seeds, most);
-    let with_gradient = take_gradient(begun, gradient, pine.scale, pine.frac_bits);
+    let u = field64::sub(pine.sq_norm_bound, v);
     let q = pine.sq_norm_bits as usize;
-    let with_v = take_number(with_gradient, q, v);
-    let parts = take_number(with_v, q, field64::sub(pine.sq_norm_bound, v));
+    let parts = take_all(begun, gradient, pine.scale, pine.frac_bits, q, v, u);
     let leader = joint_rand::into_seed(parts.leader);
     let helper = joint_rand::into_seed(parts.helper);
     joint_rand::joint_rand_seed(xof::USAGE_WR_JOINT_RAND_SEED, leader, helper)

@@ -15,7 +15,7 @@ use Rattle.sampler.proofs.draw_by.Statement.{statement}
 use Rattle.sampler.proofs.draw_by.Tie as tie
 
 abbrev Inv-loop : tie.InvT-loop
-Inv-loop left bytes₀ row₀ drew₀ n₀ bytes row drew n = (((length bytes ≡ length bytes₀) × (length row ≡ length row₀)) × (n ≡ min (min (length row - drew .count) (drew .left)) 64)) × Drawing p64 (drew₀ .stream) left drew row
+Inv-loop left bytes₀ row₀ drew₀ n₀ bytes row drew n = (((length bytes ≡ length bytes₀) × (length row ≡ length row₀)) × (n ≡ min (min (length row - drew .count) (drew .left)) 63)) × Drawing p64 (drew₀ .stream) left drew row
 
 abbrev μ-loop : tie.MeasureT-loop
 μ-loop left bytes₀ row₀ drew₀ n₀ bytes row drew n = drew .left

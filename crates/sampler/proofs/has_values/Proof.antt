@@ -15,7 +15,7 @@ use Rattle.sampler.proofs.has_values.Statement.{statement}
 use Rattle.sampler.proofs.has_values.Tie as tie
 
 abbrev Inv-loop : tie.InvT-loop
-Inv-loop left wanted spare₀ state₀ draws₀ rest₀ spare state draws rest = ((length spare ≡ 64) × (state .at < 168)) × (leb rest (length (valuesOf p64 draws (drawn (8 * draws) state))) ≡ leb rest₀ (length (valuesOf p64 draws₀ (drawn (8 * draws₀) state₀))))
+Inv-loop left wanted spare₀ state₀ draws₀ rest₀ spare state draws rest = ((length spare ≡ 63) × (state .at < 168)) × (leb rest (length (valuesOf p64 draws (drawn (8 * draws) state))) ≡ leb rest₀ (length (valuesOf p64 draws₀ (drawn (8 * draws₀) state₀))))
 
 abbrev μ-loop : tie.MeasureT-loop
 μ-loop left wanted spare₀ state₀ draws₀ rest₀ spare state draws rest = rest
