@@ -6,8 +6,9 @@ of entries, and its bytes are made from them.
 
 from typing import NamedTuple
 
-from common import (BAD, BROKEN, INPUTS, OK, P, TOP, Inputs, Kind, below, case_of, changed, combined, damage, draw_small,
-                    element, elements, faults, first, first_rule, lent, octets, refused, resized, rule_7, rule_12, vec)
+from common import (BAD, BROKEN, INPUTS, OK, P, TOP, Inputs, Kind, Later, below, case_of, changed, combined, damage,
+                    draw_small, element, elements, faults, first, first_rule, lent, octets, refused, resized, rule_7, rule_12,
+                    vec)
 
 MOST_ENTRIES = 1024
 MOST_REPORTS = 2**32 - 1
@@ -169,6 +170,9 @@ def size(inputs, keys):
 ONE = Inputs(5, 1, 0, 4, 2, 2, 1)
 TWO = ONE._replace(d=2)
 
+# Rule 19.
+ZERO = {"later": Later(0, 10)}
+
 
 def key_of(address, valve):
     return bytes(address) + valve.to_bytes(2, "little")
@@ -221,7 +225,7 @@ def read_limits():
     for data in damaged():
         case = read(ONE, data)
         yield read(ONE, data, (24, 2)) if case.want == BAD else case
-    for changes in combined((*BROKEN, {"out": (25, 2)}, {"out": (24, 1)}, {"file": file_of(1, PAIR[::-1])})):
+    for changes in combined((*BROKEN, ZERO, {"out": (25, 2)}, {"out": (24, 1)}, {"file": file_of(1, PAIR[::-1])})):
         yield read(changed(ONE, changes), changes.get("file", PAIR_FILE), changes.get("out", ()))
     for out in ((23,), (25,), (24, 1), (24, 3), (0, 0), (23, 1), (24, 2)):
         yield read(ONE, PAIR_FILE, out)
@@ -244,7 +248,7 @@ def many_entries(many, reports=1):
 
 def write_limits():
     contents, bodies = contents_of(PAIR), bodies_of(PAIR)
-    for changes in combined((*BROKEN, {"contents": contents + b"\0"}, {"bodies": bodies + [0]}, {"out": (47,)},
+    for changes in combined((*BROKEN, ZERO, {"contents": contents + b"\0"}, {"bodies": bodies + [0]}, {"out": (47,)},
                              {"count": 3}, {"over": [P, 5]})):
         yield write(changed(ONE, changes), changes.get("count", 2), changes.get("contents", contents),
                     changes.get("over", changes.get("bodies", bodies)), changes.get("out", (46,)))
@@ -278,7 +282,7 @@ def add_limits():
     for data in damaged():
         yield add(ONE, NEW, data, [P - 1])
     again = file_of(1, [PAIR[0], PAIR[1]._replace(reports=MOST_REPORTS)])
-    for changes in combined((*BROKEN, {"share": [1, 2]}, {"more": 1}, {"file": PAIR_FILE[:-1]}, {"over": [P]},
+    for changes in combined((*BROKEN, ZERO, {"share": [1, 2]}, {"more": 1}, {"file": PAIR_FILE[:-1]}, {"over": [P]},
                              {"key": HIGH, "full": again})):
         data = changes.get("file", changes.get("full", PAIR_FILE))
         yield add(changed(ONE, changes), changes.get("key", NEW), data, changes.get("over", changes.get("share", [9])),
@@ -314,7 +318,7 @@ def add_limits():
 
 
 def most_limits():
-    for changes in combined(BROKEN):
+    for changes in combined((*BROKEN, ZERO)):
         yield most(changed(ONE, changes), 7)
     for d in (1, 2, 255, 256, 8191, 65535, 65536, 65537, 0):
         for reports in (0, 1, 2, 1023, 1024, 1025, 65536, 2**31, MOST_REPORTS - 1, MOST_REPORTS, MOST_REPORTS + 1, TOP):
@@ -322,7 +326,7 @@ def most_limits():
 
 
 def size_limits():
-    for changes in combined((*BROKEN, {"keys": LOW + HIGH + b"\0"})):
+    for changes in combined((*BROKEN, ZERO, {"keys": LOW + HIGH + b"\0"})):
         yield size(changed(ONE, changes), changes.get("keys", LOW + HIGH))
     for length in range(34):
         yield size(ONE, (LOW + HIGH + NEW + LOW + HIGH)[:length])
