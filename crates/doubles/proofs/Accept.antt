@@ -173,7 +173,7 @@ pub taken : (x : Float) (f : ℕ) → coordinateRule floorLimit64 x f .number �
 taken x f h = let g = both _ _ h in record { usable = not-so _ 7 0 (g .0); near = not-so _ 16 0 (g .1) }
 
 -- the product's floor is its element's
-pub product-is-element : (x : Float) (f : ℕ) → T (fits binary64 x) → Taken x f → floorMod (mul binary64 x (power f)) ≡ element p64 x f
+pub product-is-element : (x : Float) (f : ℕ) → T (fits binary64 x) → Taken x f → floorMod p64 (mul binary64 x (power f)) ≡ element p64 x f
 product-is-element nan f t h = absurd (true≢false (unfold unusable in h .usable))
 product-is-element (inf s) f t h = absurd (true≢false (unfold unusable in h .usable))
 product-is-element (fin s m e) f t h = product-floor s m e f t (h .near)

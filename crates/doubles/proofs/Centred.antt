@@ -1,40 +1,130 @@
--- The double of a field number, from its size and the divisor whose sign is its own. Assumes nothing.
-use mathlib.Core.Path.{_≡_, refl, sym, ap, _∙_}
-use mathlib.Core.Bool.{Bool, true, false, not}
-use mathlib.Core.List.{List, [], _∷_}
-use Prim.Native.Nat.{ℕ, _-_, _/_, _≤_, _<_}
+-- The double nearest to a field number read as a centred number, c: c + 2 ^ 63 is h * 2 ^ 32 + l, the doubles 2 ^ 84 + h * 2 ^ 32 and 2 ^ 52 + l are h and l in the digits of a bit pattern, and their sum less
+-- 2 ^ 84 + 2 ^ 63 + 2 ^ 52 is c, rounded once. Assumes nothing.
+use mathlib.Core.Path.{_≡_, refl, sym, ap, _∙_, subst}
+use mathlib.Core.Bool.{Bool, true, false, not, cond}
+use Prim.Native.Nat.{ℕ, _+_, _-_, _*_, _/_, _%_, _^_, _≤_, _<_}
+use native.Mathlib.Nat.{lt-of-not-le, zero-lt-suc, zero-add, mul-one}
+use native.Mathlib.Decide.{decLe}
+use native.Mathlib.Omega.{arith}
 use lib.IntN.{pos}
-use lib.ListN.{getD}
+use lib.Dec.{T, lit<, lit≤}
 use borrow.Author.Tests.{lt-ltb, le-ltb}
-use lib.Ieee.{Float, nan, inf, fin, Format, binary64, unlike, neg, div, ofInt}
-use Rattle.doubles.specs.Doubles.{power, centred, decoded}
+use lib.Ieee.{Float, fin, binary64, round, neg, add, sub, ofInt, nanBits, ofBits}
+use lib.Ieee.Bits.{nanBits-is}
+use lib.Ieee.Exact.{HasValue}
+use lib.Ieee.Fits.{ofInt-fits}
+use Rattle.field64.specs.Field.{p64}
+use Rattle.doubles.specs.Doubles.{centred}
+use Rattle.doubles.proofs.Laws.{round-neg}
+use Rattle.doubles.proofs.Minus.{over, roundMinus, add-minus, sub-minus}
+use Rattle.doubles.proofs.Binade.{of-pattern}
+use Rattle.doubles.proofs.Raised.{a-number, multiple-exact, number-within, multiples-hold}
 
-unlike-not : (s t : Bool) → unlike s (not t) ≡ unlike (not s) t
-unlike-not true true = refl
-unlike-not true false = refl
-unlike-not false true = refl
-unlike-not false false = refl
+-- ---- a number below 2 ^ 32 as the digits of a pattern
+abbrev highDigits : ℕ → Float
+highDigits h = ofBits binary64 (4985484787499139072 + h)
 
--- a negative divisor gives the quotient of the negative
-div-neg : (b : Format) (x y : Float) → div b x (neg y) ≡ div b (neg x) y
-unfolding div neg
-div-neg b nan y = refl
-div-neg b (inf s) nan = refl
-div-neg b (inf s) (inf t) = refl
-div-neg b (inf s) (fin t n d) = ap (λ (u : Bool). inf u) (unlike-not s t)
-div-neg b (fin s m e) nan = refl
-div-neg b (fin s m e) (inf t) = ap (λ (u : Bool). fin u 0 (pos 0)) (unlike-not s t)
-div-neg b (fin s m e) (fin t n d) = rw (unlike-not s t)
+abbrev lowDigits : ℕ → Float
+lowDigits l = ofBits binary64 (4841369599423283200 + l)
 
--- with the divisors 2 ^ f and -(2 ^ f): the first for a number up to (p - 1) / 2, the second for one above, whose size is its distance to p
-module _ (p y f : ℕ) (scale x : Float) (size sign : ℕ) (e : scale ≡ power f) (g : x ≡ ofInt binary64 (pos size)) where
-  abbrev quotient : Float
-  quotient = div binary64 x (getD (scale ∷ neg scale ∷ []) sign nan)
+digits-value : (k q : ℕ) → 53 + k ≤ 1023 → 2 ^ 52 ≤ q → q < 2 ^ 53 → HasValue (ofBits binary64 ((1074 + k) * 2 ^ 52 + q)) false (q * 2 ^ k) 1
+digits-value k q K h g = of-pattern binary64 k (round binary64 false (q * 2 ^ k) 1) q (unfold ofInt in ofInt-fits binary64 (pos (q * 2 ^ k))) (multiple-exact false q k g K) (number-within k q h g)
 
-  pub decoded-negative : (p - 1) / 2 < y → size ≡ p - y → sign ≡ 1 → quotient ≡ decoded p y f
-  unfolding decoded centred
-  decoded-negative h k s = rw (s, g, k, e, lt-ltb ((p - 1) / 2) y h) (div-neg binary64 (ofInt binary64 (pos (p - y))) (power f))
+high-value : (h : ℕ) → h < 2 ^ 32 → HasValue (highDigits h) false ((2 ^ 52 + h) * 2 ^ 32) 1
+high-value h l = subst (λ (n : ℕ). HasValue (ofBits binary64 n) false ((2 ^ 52 + h) * 2 ^ 32) 1) (moved h) (digits-value 32 (2 ^ 52 + h) (lit≤ tt) (omega arith) (omega arith))
+  where
+    moved : (h : ℕ) → 1106 * 2 ^ 52 + (2 ^ 52 + h) ≡ 4985484787499139072 + h
+    moved h = omega arith
 
-  pub decoded-positive : y ≤ (p - 1) / 2 → size ≡ y → sign ≡ 0 → quotient ≡ decoded p y f
-  unfolding decoded centred
-  decoded-positive h k s = rw (s, g, k, e, le-ltb ((p - 1) / 2) y h)
+low-value : (l : ℕ) → l < 2 ^ 32 → HasValue (lowDigits l) false (2 ^ 52 + l) 1
+low-value l h =
+    subst (λ (n : ℕ). HasValue (ofBits binary64 n) false (2 ^ 52 + l) 1) (moved l)
+    (subst (λ (n : ℕ). HasValue (ofBits binary64 (1074 * 2 ^ 52 + (2 ^ 52 + l))) false n 1) (mul-one (2 ^ 52 + l)) (digits-value 0 (2 ^ 52 + l) (lit≤ tt) (omega arith) (omega arith)))
+  where
+    moved : (l : ℕ) → 1074 * 2 ^ 52 + (2 ^ 52 + l) ≡ 4841369599423283200 + l
+    moved l = omega arith
+
+-- neither is a NaN's
+no-nan : (n a : ℕ) → HasValue (ofBits binary64 n) false a 1 → T (not (nanBits binary64 n))
+no-nan n a h = subst (λ (t : Bool). T (not t)) (sym (nanBits-is binary64 n)) (a-number (ofBits binary64 n) false a 1 h)
+
+pub high-number : (x : ℕ) → x < 2 ^ 64 → T (not (nanBits binary64 (4985484787499139072 + x / 2 ^ 32)))
+high-number x h = no-nan _ _ (high-value (x / 2 ^ 32) (omega arith))
+
+pub low-number : (x : ℕ) → T (not (nanBits binary64 (4841369599423283200 + x % 2 ^ 32)))
+low-number x = no-nan _ _ (low-value (x % 2 ^ 32) (omega arith))
+
+-- ---- their sum
+both : (h l : ℕ) → h < 2 ^ 32 → l < 2 ^ 32
+    → add binary64 (sub binary64 (highDigits h) (fin false 4294969345 (pos 52))) (lowDigits l) ≡ roundMinus binary64 ((2 ^ 52 + h) * 2 ^ 32 + (2 ^ 52 + l)) 19342822341709703277445120 1
+both h l H L =
+    add-minus binary64 (sub binary64 (highDigits h) (fin false 4294969345 (pos 52))) (lowDigits l) 1 (zero-lt-suc 0) ((2 ^ 52 + h) * 2 ^ 32) 19342822341709703277445120 (2 ^ 52 + l)
+    (sub-minus binary64 (highDigits h) (fin false 4294969345 (pos 52)) 1 (zero-lt-suc 0) ((2 ^ 52 + h) * 2 ^ 32) (4503601775902720 * 2 ^ 32) 0 (multiples-hold 32 (2 ^ 52 + h) 4503601775902720 (lit≤ tt) (omega arith) (lit< tt))
+    (over ((2 ^ 52 + h) * 2 ^ 32) (sym (zero-add ((2 ^ 52 + h) * 2 ^ 32))) (high-value h H))
+    (over 19342822341709703277445120 refl (refl, refl)))
+    (low-value l L)
+
+-- ---- the number: x is c + 2 ^ 63
+data Centre (y x : ℕ) : Type 0 where
+  above : y ≤ (p64 - 1) / 2 → x ≡ y + 2 ^ 63 → Centre y x
+  below : (p64 - 1) / 2 < y → x + p64 ≡ y + 2 ^ 63 → Centre y x
+
+halves : (x : ℕ) → (2 ^ 52 + x / 2 ^ 32) * 2 ^ 32 + (2 ^ 52 + x % 2 ^ 32) ≡ x + 19342813118337666422669312
+halves x = omega arith
+
+centre-is : (y x : ℕ) → y < p64 → Centre y x → roundMinus binary64 (x + 19342813118337666422669312) 19342822341709703277445120 1 ≡ centred p64 y
+unfolding centred ofInt
+centre-is y x Y (above h e) =
+    ap (λ (t : Bool). cond t (round binary64 true (19342822341709703277445120 - (x + 19342813118337666422669312)) 1) (round binary64 false (x + 19342813118337666422669312 - 19342822341709703277445120) 1)) (le-ltb (x + 19342813118337666422669312) 19342822341709703277445120 (omega arith))
+    ∙ ap (λ (n : ℕ). round binary64 false n 1) (back x y e)
+    ∙ ap (λ (t : Bool). cond t (neg (round binary64 false (p64 - y) 1)) (round binary64 false y 1)) (sym (le-ltb ((p64 - 1) / 2) y h))
+  where
+    back : (x y : ℕ) → x ≡ y + 2 ^ 63 → x + 19342813118337666422669312 - 19342822341709703277445120 ≡ y
+    back x y e = omega arith
+centre-is y x Y (below h e) =
+    ap (λ (t : Bool). cond t (round binary64 true (19342822341709703277445120 - (x + 19342813118337666422669312)) 1) (round binary64 false (x + 19342813118337666422669312 - 19342822341709703277445120) 1)) (lt-ltb (x + 19342813118337666422669312) 19342822341709703277445120 (omega arith))
+    ∙ ap (λ (n : ℕ). round binary64 true n 1) (back x y Y e)
+    ∙ round-neg binary64 (p64 - y) 1
+    ∙ ap (λ (t : Bool). cond t (neg (round binary64 false (p64 - y) 1)) (round binary64 false y 1)) (sym (lt-ltb ((p64 - 1) / 2) y h))
+  where
+    back : (x y : ℕ) → y < p64 → x + p64 ≡ y + 2 ^ 63 → 19342822341709703277445120 - (x + 19342813118337666422669312) ≡ p64 - y
+    back x y Y e = omega arith
+
+-- d is the half of p less y, g its gap, w the number modulo 2 ^ 64
+bit-above : (y d : ℕ) → y ≤ 9223372034707292160 → d < 2 ^ 64 → (d + y) % 2 ^ 64 ≡ 9223372034707292160 → d / 2 ^ 63 ≡ 0
+bit-above y d h D e = small d (less y d h D e)
+  where
+    less : (y d : ℕ) → y ≤ 9223372034707292160 → d < 2 ^ 64 → (d + y) % 2 ^ 64 ≡ 9223372034707292160 → d < 2 ^ 63
+    less y d h D e = omega arith
+
+    small : (d : ℕ) → d < 2 ^ 63 → d / 2 ^ 63 ≡ 0
+    small d h = omega arith
+
+bit-below : (y d : ℕ) → 9223372034707292160 < y → y < p64 → d < 2 ^ 64 → (d + y) % 2 ^ 64 ≡ 9223372034707292160 → d / 2 ^ 63 ≡ 1
+bit-below y d h Y D e = large d D (more y d h Y D e)
+  where
+    more : (y d : ℕ) → 9223372034707292160 < y → y < p64 → d < 2 ^ 64 → (d + y) % 2 ^ 64 ≡ 9223372034707292160 → 2 ^ 63 ≤ d
+    more y d h Y D e = omega arith
+
+    large : (d : ℕ) → d < 2 ^ 64 → 2 ^ 63 ≤ d → d / 2 ^ 63 ≡ 1
+    large d D h = omega arith
+
+number-above : (y g w x : ℕ) → y ≤ 9223372034707292160 → g ≡ 0 → w ≡ (y + g) % 2 ^ 64 → x ≡ (w + 2 ^ 63) % 2 ^ 64 → x ≡ y + 2 ^ 63
+number-above y g w x h i j k = omega arith
+
+number-below : (y g w x : ℕ) → 9223372034707292160 < y → y < p64 → g ≡ 4294967295 → w ≡ (y + g) % 2 ^ 64 → x ≡ (w + 2 ^ 63) % 2 ^ 64 → x + p64 ≡ y + 2 ^ 63
+number-below y g w x h Y i j k = omega arith
+
+centre : (y d g w x : ℕ) → y < p64 → d < 2 ^ 64 → (d + y) % 2 ^ 64 ≡ 9223372034707292160 → g ≡ d / 2 ^ 63 * 4294967295 → w ≡ (y + g) % 2 ^ 64 → x ≡ (w + 2 ^ 63) % 2 ^ 64 → Centre y x
+centre y d g w x Y D e i j k = go (decLe y 9223372034707292160)
+  where
+    go : Dec (y ≤ 9223372034707292160) → Centre y x
+    go (yes h) = above h (number-above y g w x h (i ∙ ap (λ (n : ℕ). n * 4294967295) (bit-above y d h D e)) j k)
+    go (no h) = let l = lt-of-not-le h in below l (number-below y g w x l Y (i ∙ ap (λ (n : ℕ). n * 4294967295) (bit-below y d l Y D e)) j k)
+
+pub nearest-centred : (y d g w x : ℕ) → y < p64 → d < 2 ^ 64 → (d + y) % 2 ^ 64 ≡ 9223372034707292160 → g ≡ d / 2 ^ 63 * 4294967295 → w ≡ (y + g) % 2 ^ 64 → x < 2 ^ 64 → x ≡ (w + 2 ^ 63) % 2 ^ 64
+    → add binary64 (sub binary64 (highDigits (x / 2 ^ 32)) (fin false 4294969345 (pos 52))) (lowDigits (x % 2 ^ 32)) ≡ centred p64 y
+nearest-centred y d g w x Y D e i j X k =
+    both (x / 2 ^ 32) (x % 2 ^ 32) (omega arith) (omega arith)
+    ∙ ap (λ (n : ℕ). roundMinus binary64 n 19342822341709703277445120 1) (halves x)
+    ∙ centre-is y x Y (centre y d g w x Y D e i j k)

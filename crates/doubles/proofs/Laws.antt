@@ -50,7 +50,7 @@ held b s (suc m) e t =
     }
 
 -- ---- m * 2 ^ e * 2 ^ k, and m * 2 ^ e / 2 ^ k, as a multiple of 2 ^ -l
-exponent-le : (i l : ℕ) → 2 ^ i ≤ 2 ^ l → i ≤ l
+pub exponent-le : (i l : ℕ) → 2 ^ i ≤ 2 ^ l → i ≤ l
 exponent-le i l h = le-of-suc-le-suc (lt-of-not-le (λ (g : suc l ≤ i). not-le-of-lt (pow-lt g) h))
 
 up-grid : (m k l : ℕ) (e : ℤ) → down e ≤ 2 ^ l → (j : ℕ) × (m * up e * 2 ^ k * 2 ^ l ≡ m * 2 ^ j * down e)
@@ -247,14 +247,14 @@ floor-same true zero c (suc b) d C D e = absurd (no-zero b c d C e)
 floor-same true (suc a) c zero d C D e = absurd (no-zero a d c D (sym e))
 floor-same true (suc a) c (suc b) d C D e = ap negsuc (le-antisymm (below-same a b c d C D e) (below-same b a d c D C (sym e)))
 
-floor-of-value : (z : Float) (s : Bool) (a c : ℕ) → 0 < c → HasValue z s a c → (floorMod z ≡ modP p64 (floorDiv (signed s a) c)) × (within z ≡ not (beyond floorLimit64 (floorDiv (signed s a) c)))
+pub floor-of-value : (p : ℕ) (z : Float) (s : Bool) (a c : ℕ) → 0 < c → HasValue z s a c → (floorMod p z ≡ modP p (floorDiv (signed s a) c)) × (within z ≡ not (beyond floorLimit64 (floorDiv (signed s a) c)))
 unfolding floorMod within
-floor-of-value nan s a c C h = absurd h
-floor-of-value (inf t) s a c C h = absurd h
-floor-of-value (fin t m e) s a c C h =
+floor-of-value p nan s a c C h = absurd h
+floor-of-value p (inf t) s a c C h = absurd h
+floor-of-value p (fin t m e) s a c C h =
     let same : floorDiv (signed t (m * up e)) (down e) ≡ floorDiv (signed s a) c =
     ap (λ (v : Bool). floorDiv (signed v (m * up e)) (down e)) (h .0) ∙ floor-same s (m * up e) (down e) a c (down-pos e) C (h .1) in
-    (ap (modP p64) same, ap (λ (z : ℤ). not (beyond floorLimit64 z)) same)
+    (ap (modP p) same, ap (λ (z : ℤ). not (beyond floorLimit64 z)) same)
 
 -- ---- a size of 2 ^ 64 or more has its floor beyond the limit
 far-floor : (s : Bool) (a c : ℕ) → 0 < c → 2 ^ 64 * c ≤ a → beyond floorLimit64 (floorDiv (signed s a) c) ≡ true
@@ -279,15 +279,15 @@ product-within s m e k t = go (decLe (2 ^ 1024 * down e) (m * up e * 2 ^ k))
     go (yes h) =
         ap within (product-overflows s m e k h) ∙ within-inf s
         ∙ ap not (sym (far-floor s (m * up e * 2 ^ k) (down e) (down-pos e) (le-trans (mul-le-mul-right (down e) (lit≤ tt)) h)))
-    go (no h) = floor-of-value (mul binary64 (fin s m e) (power k)) s (m * up e * 2 ^ k) (down e) (down-pos e) (product-exact binary64 s m e k t (lt-of-not-le h)) .1
+    go (no h) = floor-of-value p64 (mul binary64 (fin s m e) (power k)) s (m * up e * 2 ^ k) (down e) (down-pos e) (product-exact binary64 s m e k t (lt-of-not-le h)) .1
 
-pub product-floor : (s : Bool) (m : ℕ) (e : ℤ) (k : ℕ) → T (fits binary64 (fin s m e)) → beyond floorLimit64 (floorOf (fin s m e) k) ≡ false → floorMod (mul binary64 (fin s m e) (power k)) ≡ element p64 (fin s m e) k
+pub product-floor : (s : Bool) (m : ℕ) (e : ℤ) (k : ℕ) → T (fits binary64 (fin s m e)) → beyond floorLimit64 (floorOf (fin s m e) k) ≡ false → floorMod p64 (mul binary64 (fin s m e) (power k)) ≡ element p64 (fin s m e) k
 unfolding element floorOf
 product-floor s m e k t b = go (decLe (2 ^ 1024 * down e) (m * up e * 2 ^ k))
   where
-    go : Dec (2 ^ 1024 * down e ≤ m * up e * 2 ^ k) → floorMod (mul binary64 (fin s m e) (power k)) ≡ modP p64 (floorDiv (signed s (m * up e * 2 ^ k)) (down e))
+    go : Dec (2 ^ 1024 * down e ≤ m * up e * 2 ^ k) → floorMod p64 (mul binary64 (fin s m e) (power k)) ≡ modP p64 (floorDiv (signed s (m * up e * 2 ^ k)) (down e))
     go (yes h) = absurd (true≢false (sym (far-floor s (m * up e * 2 ^ k) (down e) (down-pos e) (le-trans (mul-le-mul-right (down e) (lit≤ tt)) h)) ∙ b))
-    go (no h) = floor-of-value (mul binary64 (fin s m e) (power k)) s (m * up e * 2 ^ k) (down e) (down-pos e) (product-exact binary64 s m e k t (lt-of-not-le h)) .0
+    go (no h) = floor-of-value p64 (mul binary64 (fin s m e) (power k)) s (m * up e * 2 ^ k) (down e) (down-pos e) (product-exact binary64 s m e k t (lt-of-not-le h)) .0
 
 -- ---- 2 ^ f, for a small f, as a double
 power-fits : (f : ℕ) → f ≤ 30 → T (fits binary64 (power f))

@@ -3,14 +3,13 @@ use Prim.Native.Nat.{ℕ, _*_}
 use mathlib.Core.Bool.{Bool, true, false, not, _&&_, cond}
 use lib.IntN.{pos, negsuc}
 use lib.Ieee.{Float, nan, inf, fin, up, down, neg, lt, eq}
-use Rattle.field64.specs.Field.{p64}
 use Rattle.doubles.specs.Doubles.{signed, floorDiv, beyond, modP, floorLimit64}
 
 -- a finite double's floor, modulo p
-unfoldable pub floorMod : Float → ℕ
-floorMod nan = 0
-floorMod (inf s) = 0
-floorMod (fin s m e) = modP p64 (floorDiv (signed s (m * up e)) (down e))
+unfoldable pub floorMod : (p : ℕ) → Float → ℕ
+floorMod p nan = 0
+floorMod p (inf s) = 0
+floorMod p (fin s m e) = modP p (floorDiv (signed s (m * up e)) (down e))
 
 -- a double is finite, and its floor not beyond the limit
 unfoldable pub within : Float → Bool

@@ -5,9 +5,9 @@
 use rules::Answer;
 ghost use mathlib.Core.Path.{_≡_};
 ghost use mathlib.Core.Bool.{true, false, not};
-ghost use Prim.Native.Nat.{_≤_, _<_};
+ghost use Prim.Native.Nat.{_-_, _*_, _/_, _^_, _≤_, _<_};
 ghost use Rattle.field64.specs.Field.{p64};
-ghost use Rattle.doubles.specs.Doubles.{fracBitsRule, floorLimit64, power, unusable, coordinateRule, element, encoded, coordinateOf, decoded, decodedOf};
+ghost use Rattle.doubles.specs.Doubles.{fracBitsRule, floorLimit64, power, unusable, coordinateRule, element, encoded, coordinateOf, centred, decoded, decodedOf};
 ghost use Rattle.doubles.specs.Steps.{floorMod, within, near, sizeOf, normalSize, small};
 
 // The largest frac_bits.
@@ -23,6 +23,16 @@ const MIDDLE: f64 = 6755399441055744.0;
 
 const MIDDLE_BITS: u64 = 0x4338_0000_0000_0000;
 
+// 3 * 2^83.
+const HIGH_MIDDLE: f64 = 29014219670751100192948224.0;
+
+// The bit patterns of 2^84 and 2^52; 2^84 + 2^63 + 2^52.
+const HIGH_DIGITS: u64 = 0x4530_0000_0000_0000;
+
+const LOW_DIGITS: u64 = 0x4330_0000_0000_0000;
+
+const DIGITS_SUM: f64 = 19342822341709703277445120.0;
+
 // An element, which is 0 beside a refusal.
 #[repr(C)]
 pub struct Coordinate {
@@ -35,12 +45,6 @@ pub struct Coordinate {
 pub struct Decoded {
     pub answer: Answer,
     pub value: f64,
-}
-
-// An element, or a sign that it was not worked out.
-pub struct Tried {
-    pub far: u64,
-    pub element: u64,
 }
 
 // Rule 4.
@@ -86,58 +90,46 @@ pub fn usable(x: f64) -> bool
     x == 0.0
 }
 
-// Whether w is below 2^50 in size.
-fn is_near(w: f64) -> bool
-    ensures { λ r. ⌜ r ≡ near w ⌝ }
+// 2^64 - p where the highest bit of n is 1, or else 0.
+fn gap_of(n: u64) -> u64
+    ensures { λ r. ⌜ r ≡ n / 2 ^ 63 * (2 ^ 64 - p64) ⌝ }
 {
-    if -1125899906842624.0 < w {
-        w < 1125899906842624.0
-    } else {
-        false
-    }
+    std::num::wrapping_sub_u64(0, n >> 63) >> 32
 }
 
-// The floor of w, modulo p. From 2^52 to 2^53 the doubles are the whole numbers, and their bit
+// The floor of w modulo 2^64. From 2^52 to 2^53 the doubles are the whole numbers, and their bit
 // patterns count on with them. So w + MIDDLE is the floor of w and MIDDLE, or one more; taking MIDDLE
 // off again is exact, and shows which.
 fn near_floor(w: f64) -> u64
     requires { ⌜ near w ≡ true ⌝ }
-    ensures { λ r. ⌜ r ≡ floorMod w ⌝ }
+    ensures { λ r. ⌜ r ≡ floorMod (2 ^ 64) w ⌝ }
 {
     let y = w + MIDDLE;
     let bits = f64::to_bits(y);
     let floor = if w < y - MIDDLE { bits - 1 } else { bits };
-    field64::sub(floor, MIDDLE_BITS)
+    std::num::wrapping_sub_u64(floor, MIDDLE_BITS)
 }
 
-// The same, of w up to (p - 1) / 2 in size. Below zero, the size of the floor is the whole part of
-// -w, and one more where that leaves something of -w.
-fn far_floor(w: f64) -> u64
+// The same, of w up to (p - 1) / 2 in size. From 2^84 to 2^85 the doubles are the multiples of 2^32. So
+// w + HIGH_MIDDLE is HIGH_MIDDLE and a multiple of 2^32 close to w, which its lower bits count; what w is
+// beside that has no more digits than w, or is below 2^32, and is exact.
+fn floor_word(w: f64) -> u64
     requires { ⌜ within w ≡ true ⌝ }
-    ensures { λ r. ⌜ r ≡ floorMod w ⌝ }
+    ensures { λ r. ⌜ r ≡ floorMod (2 ^ 64) w ⌝ }
 {
-    if w < 0.0 {
-        let a = -w;
-        let t = std::num::truncating_f64_to_u64(a);
-        if std::num::nearest_u64_to_f64(t) < a {
-            field64::P - (t + 1)
-        } else {
-            field64::P - t
-        }
-    } else {
-        std::num::truncating_f64_to_u64(w)
-    }
+    let y = w + HIGH_MIDDLE;
+    let low = near_floor(w - (y - HIGH_MIDDLE));
+    std::num::wrapping_add_u64(f64::to_bits(y) << 32, low)
 }
 
-// The same: below 2^50 in size, as coordinates are, with no branch on the sign or the exponent.
+// The same modulo p, with no branch on the sign or the exponent, so that a loop over a row runs on
+// vectors.
 fn floor_to_field(w: f64) -> u64
     requires { ⌜ within w ≡ true ⌝ }
-    ensures { λ r. ⌜ r ≡ floorMod w ⌝ }
+    ensures { λ r. ⌜ r ≡ floorMod p64 w ⌝ }
 {
-    if is_near(w) {
-        return near_floor(w);
-    }
-    far_floor(w)
+    let word = floor_word(w);
+    std::num::wrapping_sub_u64(word, gap_of(word))
 }
 
 // Whether w is finite and its floor not beyond (p - 1) / 2 either way. From 2^53 on a double is its
@@ -198,33 +190,6 @@ pub fn element_of(x: f64, scale: f64, frac_bits: u64) -> u64
     floor_to_field(x * scale)
 }
 
-// 1 just where w is not below 2^50 in size.
-fn far_flag(w: f64) -> u64
-    ensures { λ r. ⌜ (r ≤ 1) × (r ≡ 0 → near w ≡ true) ⌝ }
-{
-    if is_near(w) { 0 } else { 1 }
-}
-
-// w where it is below 2^50 in size, or else 0.
-fn near_or_zero(w: f64) -> f64
-    ensures { λ r. ⌜ (near r ≡ true) × (near w ≡ true → r ≡ w) ⌝ }
-{
-    if is_near(w) { w } else { 0.0 }
-}
-
-// The same as element_of where far is 0, as of all coordinates whose product by the scale is below
-// 2^50 in size. In this form a loop over a row runs on vectors.
-pub fn near_element(x: f64, scale: f64, frac_bits: u64) -> Tried
-    requires { ⌜ coordinateRule floorLimit64 x «frac_bits» .number ≡ 0 ⌝ ∗ ⌜ scale ≡ power «frac_bits» ⌝ }
-    ensures { λ r. ⌜ (r .far ≤ 1) × (r .far ≡ 0 → r .element ≡ element p64 x «frac_bits») ⌝ }
-{
-    let w = x * scale;
-    Tried {
-        far: far_flag(w),
-        element: near_floor(near_or_zero(w)),
-    }
-}
-
 // x at the scale 2^frac_bits, by rules 8 and 17.
 pub fn encode(x: f64, scale: f64, frac_bits: u64) -> Coordinate
     requires { ⌜ scale ≡ power «frac_bits» ⌝ }
@@ -240,19 +205,26 @@ pub fn encode(x: f64, scale: f64, frac_bits: u64) -> Coordinate
     }
 }
 
-// The double of y at the scale 2^frac_bits. The sign is the divisor's, and the top bit of HALF - y is
-// its index: in this form no branch is left in the machine code.
+// The double nearest to y read as a centred number. HALF - y has its highest bit where that is y - p;
+// raised is the number and 2^63, and its halves are written as the digits of two doubles. What is taken
+// off is exact, and only the last sum rounds.
+fn centred_of(y: u64) -> f64
+    requires { ⌜ y < p64 ⌝ }
+    ensures { λ r. ⌜ r ≡ centred p64 y ⌝ }
+{
+    let word = std::num::wrapping_add_u64(y, gap_of(std::num::wrapping_sub_u64(HALF, y)));
+    let raised = std::num::wrapping_add_u64(word, 0x8000_0000_0000_0000);
+    let high = f64::from_bits(HIGH_DIGITS + (raised >> 32));
+    let low = f64::from_bits(LOW_DIGITS + raised % 0x1_0000_0000);
+    high - DIGITS_SUM + low
+}
+
+// The double of y at the scale 2^frac_bits.
 pub fn decode(y: u64, scale: f64, frac_bits: u64) -> f64
     requires { ⌜ y < p64 ⌝ ∗ ⌜ scale ≡ power «frac_bits» ⌝ }
     ensures { λ r. ⌜ r ≡ decoded p64 y «frac_bits» ⌝ }
 {
-    let divisors = [scale, -scale];
-    let sign = (std::num::wrapping_sub_u64(HALF, y) >> 63) as usize;
-    let mut size = y;
-    if HALF < y {
-        size = field64::P - y;
-    }
-    std::num::nearest_u64_to_f64(size) / divisors[sign]
+    centred_of(y) / scale
 }
 
 // The double x as a field number.

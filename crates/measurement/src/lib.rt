@@ -14,8 +14,8 @@ ghost use Rattle.flp.specs.Bits.{bits};
 ghost use Rattle.flp.specs.Encode.{elements, inRange, success, testBits};
 ghost use Rattle.measurement.specs.Parts.{Usable, checkedOf};
 
-// Writes the gradient's elements over a row of as many, one by one.
-fn write_each(gradient: &[f64], scale: f64, frac_bits: u64, row: &mut [u64])
+// Writes the gradient's elements over a row of as many.
+pub fn write_elements(gradient: &[f64], scale: f64, frac_bits: u64, row: &mut [u64])
     requires { ⌜ Usable floorLimit64 «frac_bits» (now gradient) ⌝ }
     requires { ⌜ scale ≡ power «frac_bits» ⌝ }
     requires { ⌜ length (now row) ≡ length (now gradient) ⌝ }
@@ -26,37 +26,6 @@ fn write_each(gradient: &[f64], scale: f64, frac_bits: u64, row: &mut [u64])
         row[k] = doubles::element_of(gradient[k], scale, frac_bits);
         k += 1;
     }
-}
-
-// The same with no branch on a coordinate, and how many were left out.
-fn write_near(gradient: &[f64], scale: f64, frac_bits: u64, row: &mut [u64]) -> u64
-    requires { ⌜ Usable floorLimit64 «frac_bits» (now gradient) ⌝ }
-    requires { ⌜ scale ≡ power «frac_bits» ⌝ }
-    requires { ⌜ length (now row) ≡ length (now gradient) ⌝ }
-    ensures { λ r. ⌜ (r ≡ 0 → now (row .exit) ≡ elements p64 «frac_bits» (now (gradient .entry))) ⌝ }
-{
-    let mut far = 0;
-    let mut k = 0;
-    while k < row.len() {
-        let tried = doubles::near_element(gradient[k], scale, frac_bits);
-        far += tried.far;
-        row[k] = tried.element;
-        k += 1;
-    }
-    far
-}
-
-// Writes the gradient's elements over a row of as many.
-pub fn write_elements(gradient: &[f64], scale: f64, frac_bits: u64, row: &mut [u64])
-    requires { ⌜ Usable floorLimit64 «frac_bits» (now gradient) ⌝ }
-    requires { ⌜ scale ≡ power «frac_bits» ⌝ }
-    requires { ⌜ length (now row) ≡ length (now gradient) ⌝ }
-    ensures { λ _. ⌜ now (row .exit) ≡ elements p64 «frac_bits» (now (gradient .entry)) ⌝ }
-{
-    if write_near(gradient, scale, frac_bits, row) == 0 {
-        return;
-    }
-    write_each(gradient, scale, frac_bits, row);
 }
 
 // Writes the low bits of a number over a row, low bit first.

@@ -3,6 +3,7 @@ use mathlib.Core.Path.{sym, _∙_, ap, subst}
 use mathlib.Core.Bool.{not}
 use lib.Dec.{T}
 use lib.Ieee.{Float, binary64, fits, mul}
+use Rattle.field64.specs.Field.{p64}
 use Rattle.doubles.specs.Steps.{floorMod, within}
 use Rattle.doubles.proofs.Accept.{taken, usable-within, product-is-element}
 use Rattle.doubles.proofs.element_of.Statement.{statement}
@@ -20,7 +21,7 @@ floor-to-field-requires c κs =
 returns : tie.Need-returns
 returns c =
     let s = c .before in
-    c .floor-to-field .ensures ∙ ap (λ (z : Float). floorMod (mul binary64 (s .args .x) z)) (s .pre .1)
+    c .floor-to-field .ensures ∙ ap (λ (z : Float). floorMod p64 (mul binary64 (s .args .x) z)) (s .pre .1)
     ∙ product-is-element (s .args .x) (s .args .frac-bits) (held s) (taken (s .args .x) (s .args .frac-bits) (s .pre .0))
 
 pub element-of-spec : {M : Type 1} → statement M

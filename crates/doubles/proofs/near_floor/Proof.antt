@@ -1,11 +1,12 @@
 -- `doubles::near_floor` meets its contract: 3 * 2 ^ 51 is given in MIR by its bit pattern. Assumes nothing.
-use mathlib.Core.Path.{_≡_, ap, _∙_}
+use mathlib.Core.Path.{_≡_, _∙_}
 use mathlib.Core.Logic.{⊎-elim}
-use Prim.Native.Nat.{ℕ, _+_}
+use Prim.Native.Nat.{_+_}
 use native.Mathlib.Omega.{arith}
+use borrow.Author.Needs.{needs}
+use lib.Dec.{lit<}
 use lib.Ieee.{ofBits}
-use Rattle.field64.specs.Field.{p64, subMod}
-use Rattle.doubles.proofs.Near.{Near, known, base, middle}
+use Rattle.doubles.proofs.Near.{Near, known, base, floor-lt, word-is}
 use Rattle.doubles.proofs.near_floor.Statement.{statement}
 use Rattle.doubles.proofs.near_floor.Tie as tie
 
@@ -25,13 +26,13 @@ unfolding ofBits
 floor-is c =
     ⊎-elim (λ w. omega (arith, at-start (c .before) .above (w .0 .taken), w .1)) (λ w. w .1 ∙ at-start (c .before) .level (w .0 .left)) (c .if1 .came)
 
-sub-requires : tie.Need-sub-requires
-sub-requires c κs = (omega (arith, floor-is c, at-start (c .before) .small), omega arith)
+wrapping-sub-u64-requires : tie.Need-wrapping-sub-u64-requires
+wrapping-sub-u64-requires c κs = search needs
 
 returns : tie.Need-returns
 returns c =
     let s = c .before .before in
-    c .sub .ensures ∙ ap (λ (n : ℕ). subMod p64 n (base + middle)) (floor-is (c .before)) ∙ at-start s .is
+    word-is (c .wrapping-sub-u64 .result) _ (at-start s .floor) (search needs) (floor-lt _ (s .args .w) (lit< tt)) (c .wrapping-sub-u64 .ensures ∙ floor-is (c .before)) (at-start s .is)
 
 pub near-floor-spec : {M : Type 1} → statement M
-near-floor-spec = tie.close (tie.spec float-to-bits-bits sub-floor sub-requires returns)
+near-floor-spec = tie.close (tie.spec float-to-bits-bits sub-floor wrapping-sub-u64-requires returns)
