@@ -69,8 +69,8 @@ pub fn check_gradient_len(len: usize, dimension: u64) -> Answer
     }
 }
 
-// Rule 11.
-fn check_every(results: &[u64], bound: u64) -> Answer
+// Rule 11: the first result out of range.
+fn search_results(results: &[u64], bound: u64) -> Answer
     requires { ⌜ bound ≤ p64 ⌝ }
     ensures { λ r. ⌜ r ≡ everyRule p64 bound 0 (now (results .entry)) ⌝ }
 {
@@ -87,7 +87,7 @@ fn check_every(results: &[u64], bound: u64) -> Answer
     Answer::accepted()
 }
 
-// How many results are in range.
+// How many results are in range, with no branch on one.
 fn count_in_range(results: &[u64], bound: u64) -> u64
     requires { ⌜ bound ≤ p64 ⌝ }
     ensures { λ r. ⌜ r ≡ countInRange p64 bound (now (results .entry)) ⌝ }
@@ -99,6 +99,17 @@ fn count_in_range(results: &[u64], bound: u64) -> u64
         t += 1;
     }
     count
+}
+
+// Rule 11: only results of which one is out of range are searched.
+fn check_every(results: &[u64], bound: u64) -> Answer
+    requires { ⌜ bound ≤ p64 ⌝ }
+    ensures { λ r. ⌜ r ≡ everyRule p64 bound 0 (now (results .entry)) ⌝ }
+{
+    if count_in_range(results, bound) == results.len() as u64 {
+        return Answer::accepted();
+    }
+    search_results(results, bound)
 }
 
 // Rule 20.

@@ -50,34 +50,28 @@ fn write_test(w: usize, value: u64, success: u64, row: &mut [u64])
     row[w] = success;
 }
 
-// Whether a result lies from -b + 1 to b.
+// Whether a result lies from -b + 1 to b. Both comparisons are made, whatever the first says: the sign of a result
+// decides no branch.
 pub fn in_range(r: u64, bound: u64) -> bool
     requires { ⌜ bound ≤ p64 ⌝ }
     ensures { λ t. ⌜ t ≡ inRange p64 bound r ⌝ }
 {
-    if r <= bound {
-        true
-    } else {
-        field64::P - bound < r
-    }
+    (r <= bound) | (field64::P - bound < r)
 }
 
-// The number that is written for a result: result + b - 1, or 0 where it is out of range.
+// The number that is written for a result: result + b - 1, or 0 where it is out of range. By a product, with no branch.
 fn number_of(r: u64, bound: u64, hit: bool) -> u64
     requires { ⌜ (r < p64) × ((0 < bound) × (bound ≤ p64)) ⌝ }
     ensures { λ n. ⌜ n ≡ cond hit (addMod p64 r (bound - 1)) 0 ⌝ }
 {
-    if hit { field64::add(r, bound - 1) } else { 0 }
+    field64::add(r, bound - 1) * (hit as u64)
 }
 
 // The success bit of a test that is in range or not, so many of these still to be given.
 fn success_bit(hit: bool, left: u64) -> u64
     ensures { λ r. ⌜ r ≡ success hit left ⌝ }
 {
-    if !hit {
-        return 0;
-    }
-    if left == 0 { 0 } else { 1 }
+    (hit & (left != 0)) as u64
 }
 
 // Writes the test bits over a row of w + 1 elements for each result: w bits of its number, then the

@@ -1,18 +1,17 @@
--- Laws of how rule 12 is tested: carries, rows joined by |, a search block by block. Assumes nothing.
+-- Laws of how rule 12 is tested: carries, and those of a row part by part. Assumes nothing.
 use mathlib.Core.Path.{_≡_, refl, sym, ap, subst, _∙_}
 use mathlib.Core.Bool.{Bool, true, false}
-use mathlib.Core.List.{List, [], _∷_, _++_}
+use mathlib.Core.List.{List}
 use Prim.Native.Nat.{ℕ, _+_, _-_, _/_, _%_, _^_, _≤_, _<_}
 use native.Mathlib.Omega.{arith}
-use lib.ListN.{length, getD, take, drop, length-drop, take-append-drop}
-use lib.Seq.{take-all, drop-drop, length-take-le}
+use lib.ListN.{length, getD, take, drop, length-drop}
+use lib.Seq.{take-all, length-take-le, getD-take, getD-drop}
 use lib.Dec.{ltb}
 use lib.Bits.{bitAnd, bitOr, and-shr, and-self, and-le-l, and-le-r, or-add-and, or-lt}
 use borrow.Author.Tests.{ltb-true, ltb-false}
 use Rattle.field64.specs.Field.{p64}
-use Rattle.rows.specs.Rows.{firstBad, Below}
-use Rattle.rows.specs.Joined.{orRows}
-use Rattle.rows.proofs.Elements.{below-all, below-at, below-append, bad-left, bad-right}
+use Rattle.rows.specs.Rows.{Below}
+use Rattle.rows.proofs.Elements.{below-all, below-at, below-take, below-drop}
 
 -- ---- in Field64: an element that is not below p wraps when 2 ^ 32 - 1 is added
 
@@ -81,18 +80,7 @@ seen-next p row i seen x r h e f g s = (
 pub seen-all : (p : ℕ) (row : List ℕ) (i seen : ℕ) → length row ≤ i → Seen p row i seen → (seen < 2 ^ 63 → Below p row) × (Below p row → seen < 2 ^ 63)
 seen-all p row i seen h s = (λ k. below-all p row (λ j l. s .0 k j (omega arith)), s .1)
 
--- ---- rows joined by |
-
--- where they are below n, so are both
-pub or-below : (n : ℕ) (xs ys : List ℕ) → length xs ≡ length ys → Below n (orRows xs ys) → Below n xs × Below n ys
-or-below n [] [] e f = (tt, tt)
-or-below n [] (y ∷ ys) e f = absurd (omega arith)
-or-below n (x ∷ xs) [] e f = absurd (omega arith)
-or-below n (x ∷ xs) (y ∷ ys) e f =
-    let r = or-below n xs ys (omega arith) (f .1) in
-    ((omega (arith, f .0, or-left x y), r .0), (omega (arith, f .0, or-right x y), r .1))
-
--- ---- the search, part by part
+-- ---- a row part by part
 
 -- a row from an index on
 pub rest-is : (row : List ℕ) (at : ℕ) → take (length row - at) (drop at row) ≡ drop at row
@@ -100,43 +88,26 @@ rest-is row at =
     let l : length (drop at row) ≤ length row - at = rw (length-drop at row) (omega arith) in
     take-all (length row - at) (drop at row) l
 
--- both halves of a row below n
-pub halves-below : (n k : ℕ) (row : List ℕ) → length row ≡ k + k → Below n (orRows (take k row) (take (length row - k) (drop k row))) → Below n row
-halves-below n k row e f =
-    let l : length (take k row) ≡ k = length-take-le k row (omega arith) in
-    let r : length (drop k row) ≡ k = length-drop k row ∙ omega arith in
-    let g : Below n (orRows (take k row) (drop k row)) = subst (λ (xs : List ℕ). Below n (orRows (take k row) xs)) (rest-is row k) f in
-    let b = or-below n (take k row) (drop k row) (l ∙ sym r) g in
-    subst (Below n) (take-append-drop k row) (below-append n (take k row) (drop k row) (b .0) (b .1))
+-- r is what the part from at to end gives
+module _ (p : ℕ) (row : List ℕ) (at end seen r : ℕ) (inside : (at ≤ end) × (end ≤ length row)) where
+  abbrev part : List ℕ
+  part = take (end - at) (drop at row)
 
--- r is the search's answer for the part from at to end
-module _ (p : ℕ) (row : List ℕ) (at end r : ℕ) (inside : (at ≤ end) × (end ≤ length row)) (so-far : firstBad p row ≡ at + firstBad p (drop at row)) (found : r ≡ firstBad p (take (end - at) (drop at row))) where
-  split : take (end - at) (drop at row) ++ drop end row ≡ drop at row
-  split =
-      let e : at + (end - at) ≡ end = omega (arith, inside) in
-      ap (λ (xs : List ℕ). take (end - at) (drop at row) ++ xs) (ap (λ (k : ℕ). drop k row) (sym e) ∙ sym (drop-drop (end - at) at row)) ∙ take-append-drop (end - at) (drop at row)
-
-  long : length (take (end - at) (drop at row)) ≡ end - at
+  long : length part ≡ end - at
   long =
       let l : end - at ≤ length (drop at row) = rw (length-drop at row) (omega (arith, inside)) in
       length-take-le (end - at) (drop at row) l
 
-  -- the search stops in the part
-  pub bad-in-part : r < end - at → at + r ≡ firstBad p row
-  bad-in-part h =
-      let b : firstBad p (take (end - at) (drop at row)) < length (take (end - at) (drop at row)) = rw long (omega (arith, h, found)) in
-      let e : firstBad p (drop at row) ≡ r = ap (firstBad p) (sym split) ∙ bad-left p (take (end - at) (drop at row)) (drop end row) b ∙ sym found in
-      omega (arith, so-far, e)
+  -- an element of the part
+  in-part : (j : ℕ) → at ≤ j → j < end → Below p part → getD row j 0 < p
+  in-part j h k b =
+      let l : j - at < length part = rw long (omega arith) in
+      let e : getD part (j - at) 0 ≡ getD row j 0 = getD-take (end - at) (drop at row) (j - at) 0 (omega arith) ∙ getD-drop at row (j - at) 0 ∙ ap (λ (n : ℕ). getD row n 0) (omega arith) in
+      subst (λ (n : ℕ). n < p) e (below-at p part b (j - at) l)
 
-  -- it goes on behind the part
-  pub bad-past-part : end - at ≤ r → firstBad p row ≡ end + firstBad p (drop end row)
-  bad-past-part h =
-      let b : length (take (end - at) (drop at row)) ≤ firstBad p (take (end - at) (drop at row)) = rw long (omega (arith, h, found)) in
-      let e : firstBad p (drop at row) ≡ (end - at) + firstBad p (drop end row) = ap (firstBad p) (sym split) ∙ bad-right p (take (end - at) (drop at row)) (drop end row) b ∙ ap (λ (k : ℕ). k + firstBad p (drop end row)) long in
-      omega (arith, so-far, e, inside)
-
--- the search ends with the rest of the row
-pub bad-in-rest : (p : ℕ) (row : List ℕ) (at r : ℕ) → firstBad p row ≡ at + firstBad p (drop at row) → r ≡ firstBad p (take (length row - at) (drop at row)) → at + r ≡ firstBad p row
-bad-in-rest p row at r so-far found =
-    let e : r ≡ firstBad p (drop at row) = found ∙ ap (firstBad p) (rest-is row at) in
-    omega (arith, so-far, e)
+  pub seen-part : (r < 2 ^ 63 → Below p part) → (Below p part → r < 2 ^ 63) → Seen p row at seen → Seen p row end (bitOr seen r)
+  seen-part f g s = (λ k j l. go k j l (ltb j at) refl, λ b. or-lt 63 seen r (s .1 b) (g (below-take p (end - at) (drop at row) (below-drop p at row b))))
+    where
+      go : bitOr seen r < 2 ^ 63 → (j : ℕ) → j < end → (t : Bool) → ltb j at ≡ t → getD row j 0 < p
+      go k j l true e = s .0 (omega (arith, or-left seen r)) j (ltb-true j at e)
+      go k j l false e = in-part j (ltb-false j at e) l (f (omega (arith, or-right seen r)))

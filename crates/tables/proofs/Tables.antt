@@ -3,16 +3,16 @@ use mathlib.Core.Path.{_≡_, refl, sym, ap, _∙_}
 use mathlib.Core.Bool.{Bool, true, false}
 use mathlib.Core.List.{List, [], _∷_}
 use Prim.Native.Nat.{ℕ, zero, suc, _+_, _*_, _-_, _/_, _%_, _≤_, _<_}
-use native.Mathlib.Nat.{mod-self, mod-lt, zero-mod, mod-eq-of-lt, add-mod-mod, le-of-lt}
+use native.Mathlib.Nat.{mod-self, mod-lt, mod-mod, zero-mod, add-mod-mod, add-mod-right, le-of-lt}
 use native.Mathlib.Numerals.{add-one}
 use native.Mathlib.Omega.{arith}
 use lib.ListN.{length, getD, take, drop, set, length-take}
 use lib.Seq.{getD-drop, drop-drop, drop-cons, getD-set-same, getD-set-other}
 use lib.Dec.{ltb}
 use borrow.Author.Tests.{ltb-true, ltb-false}
-use Rattle.field64.specs.Field.{addMod, subMod, negMod}
+use Rattle.field64.specs.Field.{addMod, subMod}
 use Rattle.field64.specs.Sums.{evaluate}
-use Rattle.field64.proofs.Modular.{modular, add-both, sub-is}
+use Rattle.field64.proofs.Modular.{modular, add-both, cancel, sub-is}
 use Rattle.rows.specs.Rows.{Below}
 use Rattle.rows.proofs.Elements.{below-take, below-drop}
 use Rattle.flp.specs.Tests.{pairs, weighed, weigh, testOf}
@@ -24,18 +24,25 @@ use Rattle.groups.proofs.Swapped.{column, first-column}
 -- ---- the entries
 
 -- of two coordinates, of the entries u and v of each
-both : (p u v w z e : ℕ) → (u + w) % p ≡ 0 → (v + z) % p ≡ 0 → e ≡ addMod p u v → (e + (w + z)) % p ≡ 0
+both : (p u v w z e : ℕ) → (u + w) % p ≡ 0 → (v + z) % p ≡ 0 → e % p ≡ (u + v) % p → (e + (w + z)) % p ≡ 0
 both p u v w z e f g h =
-    rw h (simp modular (ap (λ (n : ℕ). n % p) (swap u v w z) ∙ add-both p (u + w) 0 (v + z) 0 (f ∙ sym (zero-mod p)) (g ∙ sym (zero-mod p)) ∙ zero-mod p))
+    add-both p e (u + v) (w + z) (w + z) h refl ∙ ap (λ (n : ℕ). n % p) (swap u v w z) ∙ add-both p (u + w) 0 (v + z) 0 (f ∙ sym (zero-mod p)) (g ∙ sym (zero-mod p)) ∙ zero-mod p
   where
     swap : (u v w z : ℕ) → u + v + (w + z) ≡ (u + w) + (v + z)
     swap u v w z = omega arith
+
+-- p less x is as good as any y that undoes x
+less-is : (p x y : ℕ) → 0 < p → y + x ≡ p + p → (p - x % p) % p ≡ y % p
+less-is p x y s e =
+    let l : x % p < p = mod-lt x s in
+    let f : p - x % p + x % p ≡ p = omega arith in
+    cancel p s (p - x % p) y x (sym (add-mod-mod (p - x % p) x p) ∙ ap (λ (n : ℕ). n % p) f ∙ sym (ap (λ (n : ℕ). n % p) e ∙ add-mod-right p p))
 
 -- of one coordinate, by its pair
 abbrev one : (a na : ℕ) → List ℕ
 one a na = a ∷ 0 ∷ 0 ∷ na ∷ []
 
-module _ (p a na : ℕ) (h : a < p) (e : na ≡ negMod p a) where
+module _ (p a na : ℕ) (h : a < p) (e : na ≡ p - a) where
   one-undoes : (q : ℕ) → q < 4 → (getD (one a na) q 0 + weighed p q a) % p ≡ 0
   unfolding weighed
   one-undoes zero g =
@@ -44,47 +51,54 @@ module _ (p a na : ℕ) (h : a < p) (e : na ≡ negMod p a) where
   one-undoes (suc zero) g = zero-mod p
   one-undoes (suc (suc zero)) g = zero-mod p
   one-undoes (suc (suc (suc zero))) g =
-      let f : p - a + a ≡ p = omega arith in
-      rw e (simp modular (ap (λ (n : ℕ). n % p) f ∙ mod-self p))
+      let f : na + a ≡ p = omega arith in
+      ap (λ (n : ℕ). n % p) f ∙ mod-self p
   one-undoes (suc (suc (suc (suc q)))) g = absurd (omega arith)
 
 module _ (p a b na nb pp pm mp mm : ℕ) (ha : a < p) (hb : b < p) where
   abbrev entries : List ℕ
   entries = pp ∷ b ∷ b ∷ mp ∷ a ∷ 0 ∷ 0 ∷ na ∷ a ∷ 0 ∷ 0 ∷ na ∷ pm ∷ nb ∷ nb ∷ mm ∷ []
 
-  module _ (ea : na ≡ negMod p a) (eb : nb ≡ negMod p b) (epp : pp ≡ addMod p a b) (epm : pm ≡ addMod p a nb) (emp : mp ≡ addMod p na b) (emm : mm ≡ addMod p na nb) where
+  module _ (ea : na ≡ p - a) (eb : nb ≡ p - b) (epp : pp ≡ addMod p a b) (epm : pm ≡ subMod p a b) (emp : mp ≡ p - pm) (emm : mm ≡ p - pp) where
     positive : 0 < p
     positive = omega arith
 
-    left : (x : ℕ) → x < p → x ≡ addMod p 0 x
-    left x h = sym (ap (λ (n : ℕ). n % p) (omega arith) ∙ mod-eq-of-lt h)
+    left : (x : ℕ) → x % p ≡ (0 + x) % p
+    left x = ap (λ (n : ℕ). n % p) (omega arith)
 
-    right : (x : ℕ) → x < p → x ≡ addMod p x 0
-    right x h = sym (ap (λ (n : ℕ). n % p) (omega arith) ∙ mod-eq-of-lt h)
+    right : (x : ℕ) → x % p ≡ (x + 0) % p
+    right x = ap (λ (n : ℕ). n % p) (omega arith)
 
-    hna : na < p
-    hna = rw ea (mod-lt (p - a) positive)
+    sum : pp % p ≡ (a + b) % p
+    sum = rw epp (mod-mod (a + b) p)
 
-    hnb : nb < p
-    hnb = rw eb (mod-lt (p - b) positive)
+    difference : pm % p ≡ (a + nb) % p
+    difference = rw (epm, eb) (mod-mod (a + (p - b)) p)
 
-    entry : (k : ℕ) → k < 16 → getD entries k 0 ≡ addMod p (getD (one a na) (k % 4) 0) (getD (one b nb) (k / 4) 0)
-    entry zero h = epp
-    entry (suc zero) h = left b hb
-    entry (suc (suc zero)) h = left b hb
-    entry (suc (suc (suc zero))) h = emp
-    entry (suc (suc (suc (suc zero)))) h = right a ha
-    entry (suc (suc (suc (suc (suc zero))))) h = left 0 positive
-    entry (suc (suc (suc (suc (suc (suc zero)))))) h = left 0 positive
-    entry (suc (suc (suc (suc (suc (suc (suc zero))))))) h = right na hna
-    entry (suc (suc (suc (suc (suc (suc (suc (suc zero)))))))) h = right a ha
-    entry (suc (suc (suc (suc (suc (suc (suc (suc (suc zero))))))))) h = left 0 positive
-    entry (suc (suc (suc (suc (suc (suc (suc (suc (suc (suc zero)))))))))) h = left 0 positive
-    entry (suc (suc (suc (suc (suc (suc (suc (suc (suc (suc (suc zero))))))))))) h = right na hna
-    entry (suc (suc (suc (suc (suc (suc (suc (suc (suc (suc (suc (suc zero)))))))))))) h = epm
-    entry (suc (suc (suc (suc (suc (suc (suc (suc (suc (suc (suc (suc (suc zero))))))))))))) h = left nb hnb
-    entry (suc (suc (suc (suc (suc (suc (suc (suc (suc (suc (suc (suc (suc (suc zero)))))))))))))) h = left nb hnb
-    entry (suc (suc (suc (suc (suc (suc (suc (suc (suc (suc (suc (suc (suc (suc (suc zero))))))))))))))) h = emm
+    -- the negatives of both
+    less-sum : mm % p ≡ (na + nb) % p
+    less-sum = rw (emm, epp) (less-is p (a + b) (na + nb) positive (omega arith))
+
+    less-difference : mp % p ≡ (na + b) % p
+    less-difference = rw (emp, epm) (less-is p (a + (p - b)) (na + b) positive (omega arith))
+
+    entry : (k : ℕ) → k < 16 → getD entries k 0 % p ≡ (getD (one a na) (k % 4) 0 + getD (one b nb) (k / 4) 0) % p
+    entry zero h = sum
+    entry (suc zero) h = left b
+    entry (suc (suc zero)) h = left b
+    entry (suc (suc (suc zero))) h = less-difference
+    entry (suc (suc (suc (suc zero)))) h = right a
+    entry (suc (suc (suc (suc (suc zero))))) h = left 0
+    entry (suc (suc (suc (suc (suc (suc zero)))))) h = left 0
+    entry (suc (suc (suc (suc (suc (suc (suc zero))))))) h = right na
+    entry (suc (suc (suc (suc (suc (suc (suc (suc zero)))))))) h = right a
+    entry (suc (suc (suc (suc (suc (suc (suc (suc (suc zero))))))))) h = left 0
+    entry (suc (suc (suc (suc (suc (suc (suc (suc (suc (suc zero)))))))))) h = left 0
+    entry (suc (suc (suc (suc (suc (suc (suc (suc (suc (suc (suc zero))))))))))) h = right na
+    entry (suc (suc (suc (suc (suc (suc (suc (suc (suc (suc (suc (suc zero)))))))))))) h = difference
+    entry (suc (suc (suc (suc (suc (suc (suc (suc (suc (suc (suc (suc (suc zero))))))))))))) h = left nb
+    entry (suc (suc (suc (suc (suc (suc (suc (suc (suc (suc (suc (suc (suc (suc zero)))))))))))))) h = left nb
+    entry (suc (suc (suc (suc (suc (suc (suc (suc (suc (suc (suc (suc (suc (suc (suc zero))))))))))))))) h = less-sum
     entry (suc (suc (suc (suc (suc (suc (suc (suc (suc (suc (suc (suc (suc (suc (suc (suc k)))))))))))))))) h = absurd (omega arith)
 
     pub table-law : Undoes p a b entries

@@ -10,17 +10,19 @@ ghost use Rattle.rows.specs.Rows.{Below};
 ghost use Rattle.groups.specs.Groups.{addGroup};
 ghost use Rattle.tables.specs.Tables.{Entry, Undoes, Tables, entriesAt, lessEntries, lessGroup};
 
-// What is to be taken off a result for two coordinates, by their pairs: pair of a + 4 * pair of b.
+// What is to be taken off a result for two coordinates, by their pairs: pair of a + 4 * pair of b. Entries are added as
+// whole numbers, so that p less a number serves for its negative: of 0 it is p, and there is no test that could become a
+// branch.
 fn table(a: u64, b: u64) -> [u64; 16]
     requires { ⌜ (a < p64) × (b < p64) ⌝ }
     ensures { λ r. ⌜ Undoes p64 a b r ⌝ }
 {
-    let na = field64::neg(a);
-    let nb = field64::neg(b);
+    let na = field64::P - a;
+    let nb = field64::P - b;
     let pp = field64::add(a, b);
-    let pm = field64::add(a, nb);
-    let mp = field64::add(na, b);
-    let mm = field64::add(na, nb);
+    let pm = field64::sub(a, b);
+    let mp = field64::P - pm;
+    let mm = field64::P - pp;
     [pp, b, b, mp, a, 0, 0, na, a, 0, 0, na, pm, nb, nb, mm]
 }
 

@@ -1,6 +1,7 @@
 -- `measurement::number_of` meets its contract. Assumes nothing.
-use mathlib.Core.Path.{_∙_}
+use native.Mathlib.Omega.{arith}
 use borrow.Author.Needs.{needs}
+use Rattle.measurement.proofs.Written.{number-as-product, product-fits}
 use Rattle.measurement.proofs.number_of.Statement.{statement}
 use Rattle.measurement.proofs.number_of.Tie as tie
 
@@ -10,11 +11,14 @@ sub-add c = search needs
 add-requires : tie.Need-add-requires
 add-requires c κs = search needs
 
-returns : tie.Need-returns
-returns c = c .add .ensures ∙ rw (c .before .if1 .taken)
+cast-result : tie.Need-cast-result
+cast-result c = search needs
 
-returns-2 : tie.Need-returns-2
-returns-2 c = search needs
+mul-result : tie.Need-mul-result
+mul-result c = omega (arith, product-fits (c .add .result) (c .before .args .hit))
+
+returns : tie.Need-returns
+returns c = rw (c .add .ensures) (number-as-product _ (c .before .args .hit))
 
 pub number-of-spec : {M : Type 1} → statement M
-number-of-spec = tie.close (tie.spec sub-add add-requires returns returns-2)
+number-of-spec = tie.close (tie.spec sub-add add-requires cast-result mul-result returns)

@@ -1,42 +1,34 @@
 -- `tables::table` meets its contract. Assumes nothing.
+use mathlib.Core.Path.{refl}
+use native.Mathlib.Omega.{arith}
 use borrow.Author.Needs.{needs}
 use Rattle.field64.specs.Field.{p64}
 use Rattle.tables.proofs.Tables.{table-law}
 use Rattle.tables.proofs.table.Statement.{statement}
 use Rattle.tables.proofs.table.Tie as tie
 
-neg-requires : tie.Need-neg-requires
-neg-requires c κs = search needs
+sub-na : tie.Need-sub-na
+sub-na c = search needs
 
-neg-requires-2 : tie.Need-neg-requires-2
-neg-requires-2 c κs = search needs
+sub-nb : tie.Need-sub-nb
+sub-nb c = search needs
 
 add-requires : tie.Need-add-requires
 add-requires c κs = search needs
 
-add-requires-2 : tie.Need-add-requires-2
-add-requires-2 c κs = search needs
+sub-requires : tie.Need-sub-requires
+sub-requires c κs = search needs
 
-add-requires-3 : tie.Need-add-requires-3
-add-requires-3 c κs = search needs
+sub-mp : tie.Need-sub-mp
+sub-mp c = omega (arith, c .sub .ensures)
 
-add-requires-4 : tie.Need-add-requires-4
-add-requires-4 c κs = search needs
+sub-mm : tie.Need-sub-mm
+sub-mm c = omega (arith, c .before .add .ensures)
 
 returns : tie.Need-returns
 returns c =
-    let n2 = c .before .before .before .before in
-    let s = n2 .before .before in
-    table-law p64 (s .args .a) (s .args .b) _ _ _ _ _ _ (s .pre .0) (s .pre .1) (n2 .before .neg .ensures) (n2 .neg2 .ensures) (c .before .before .before .add .ensures) (c .before .before .add2 .ensures) (c .before .add3 .ensures) (c .add4 .ensures)
+    let s = c .before .before in
+    table-law p64 (s .args .a) (s .args .b) _ _ _ _ _ _ (s .pre .0) (s .pre .1) refl refl (c .before .add .ensures) (c .sub .ensures) refl refl
 
 pub table-spec : {M : Type 1} → statement M
-table-spec =
-    tie.close
-    (tie.spec
-    neg-requires
-    neg-requires-2
-    add-requires
-    add-requires-2
-    add-requires-3
-    add-requires-4
-    returns)
+table-spec = tie.close (tie.spec sub-na sub-nb add-requires sub-requires sub-mp sub-mm returns)

@@ -1,34 +1,42 @@
 -- `rows::scan::carries` meets its contract. Assumes nothing.
-use mathlib.Core.Path.{refl}
-use Prim.Native.Nat.{_-_, _≤_}
+use Prim.Native.Nat.{_+_, _-_, _≤_}
 use native.Mathlib.Omega.{arith}
 use borrow.Author.Needs.{needs}
 use lib.ListN.{length}
 use Rattle.field64.specs.Field.{p64}
-use Rattle.rows.proofs.Blocks.{Seen, seen-none, seen-next, seen-all}
+use Rattle.rows.proofs.Blocks.{Seen, seen-none, seen-part, seen-all}
 use Rattle.rows.proofs.scan.carries.Statement.{statement}
 use Rattle.rows.proofs.scan.carries.Tie as tie
 
 abbrev Inv-loop : tie.InvT-loop
-Inv-loop row seen₀ i₀ seen i = (i ≤ length row) × Seen p64 row i seen
+Inv-loop row seen₀ at₀ seen at = (at ≤ length row) × Seen p64 row at seen
 
 abbrev μ-loop : tie.MeasureT-loop
-μ-loop row seen₀ i₀ seen i = length row - i
+μ-loop row seen₀ at₀ seen at = length row - at
 
 loop-holds : tie.Need-loop-holds Inv-loop μ-loop
 loop-holds c = (omega arith, seen-none p64 (c .before .args .row .now))
 
-mul-or-carry : tie.Need-mul-or-carry Inv-loop μ-loop
-mul-or-carry c = search needs
+sub-loop : tie.Need-sub-loop Inv-loop μ-loop
+sub-loop c = search needs
 
-shared-slice-read-or-carry : tie.Need-shared-slice-read-or-carry Inv-loop μ-loop
-shared-slice-read-or-carry c = search needs
+add-end : tie.Need-add-end Inv-loop μ-loop
+add-end c = search needs
 
-or-carry-requires : tie.Need-or-carry-requires Inv-loop μ-loop
-or-carry-requires c κs = search needs
+mul-part-carries : tie.Need-mul-part-carries Inv-loop μ-loop
+mul-part-carries c = search needs
 
-add-i : tie.Need-add-i Inv-loop μ-loop
-add-i c = search needs
+sub-part-carries : tie.Need-sub-part-carries Inv-loop μ-loop
+sub-part-carries c = search needs
+
+part-part-carries-start : tie.Need-part-part-carries-start Inv-loop μ-loop
+part-part-carries-start c = search needs
+
+part-part-carries-end : tie.Need-part-part-carries-end Inv-loop μ-loop
+part-part-carries-end c = search needs
+
+part-carries-requires : tie.Need-part-carries-requires Inv-loop μ-loop
+part-carries-requires c κs = search needs
 
 loop-less : tie.Need-loop-less Inv-loop μ-loop
 loop-less c = search needs
@@ -37,13 +45,30 @@ loop-again : tie.Need-loop-again Inv-loop μ-loop
 loop-again c =
     let l = c .before .before .before in
     let row = l .before .before .args .row .now in
-    let e = c .or-carry .ensures in
-    (omega arith, seen-next p64 row (l .loop .i) (l .loop .seen) _ _ (omega arith) refl (e .0) (e .1) (l .loop .inv .1))
+    let e = c .part-carries .ensures in
+    (omega arith, seen-part p64 row (l .loop .at) (l .loop .at + 64) (l .loop .seen) _ (omega arith, omega arith) (e .0) (e .1) (l .loop .inv .1))
+
+mul-part-carries-2 : tie.Need-mul-part-carries-2 Inv-loop μ-loop
+mul-part-carries-2 c = search needs
+
+sub-part-carries-2 : tie.Need-sub-part-carries-2 Inv-loop μ-loop
+sub-part-carries-2 c = search needs
+
+part-part-carries-start-2 : tie.Need-part-part-carries-start-2 Inv-loop μ-loop
+part-part-carries-start-2 c = search needs
+
+part-part-carries-end-2 : tie.Need-part-part-carries-end-2 Inv-loop μ-loop
+part-part-carries-end-2 c = search needs
+
+part-carries-requires-2 : tie.Need-part-carries-requires-2 Inv-loop μ-loop
+part-carries-requires-2 c κs = search needs
 
 returns : tie.Need-returns Inv-loop μ-loop
 returns c =
-    let l = c .before in
-    seen-all p64 (l .before .before .args .row .now) (l .loop .i) (l .loop .seen) (omega arith) (l .loop .inv .1)
+    let l = c .before .before .before in
+    let row = l .before .before .args .row .now in
+    let e = c .part-carries2 .ensures in
+    seen-all p64 row (length row) _ (omega arith) (seen-part p64 row (l .loop .at) (length row) (l .loop .seen) _ (omega arith, omega arith) (e .0) (e .1) (l .loop .inv .1))
 
 pub carries-spec : {M : Type 1} → statement M
 carries-spec =
@@ -52,10 +77,18 @@ carries-spec =
     Inv-loop
     μ-loop
     loop-holds
-    mul-or-carry
-    shared-slice-read-or-carry
-    or-carry-requires
-    add-i
+    sub-loop
+    add-end
+    mul-part-carries
+    sub-part-carries
+    part-part-carries-start
+    part-part-carries-end
+    part-carries-requires
     loop-less
     loop-again
+    mul-part-carries-2
+    sub-part-carries-2
+    part-part-carries-start-2
+    part-part-carries-end-2
+    part-carries-requires-2
     returns)
