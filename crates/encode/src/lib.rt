@@ -91,7 +91,7 @@ fn norm_and_tests(
     ensures { λ _. ⌜ now (results .exit) ≡ testsOf p64 per (length (now (results .entry))) (streamFrom seeded (length (now (results .entry)) * per) (now (row .entry))) (elements p64 «frac_bits» (now (gradient .entry))) ⌝ }
 {
     if seeded {
-        return wr_joint_rand::norm_from_seed(gradient, scale, frac_bits, per, row, results);
+        return seeded_gradient::norm_from_seed(gradient, scale, frac_bits, per, row, results);
     }
     gradient::norm_and_tests(gradient, scale, frac_bits, per, row, results)
 }

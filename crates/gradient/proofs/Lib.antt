@@ -1,3 +1,2 @@
--- What the proofs of the functions cite: `Norm` of the squared norm and of the parts of a gradient, `Added` of results that tests are added to.
+-- What the proofs of the functions cite: `Norm` of a row of zeros.
 pub mod Norm
-mod Added

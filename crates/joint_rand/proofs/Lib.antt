@@ -1,3 +1,2 @@
--- Laws of parts and seeds. `Examples` are computed.
+-- Laws of parts and seeds.
 pub mod Parts
-mod Examples

@@ -1,3 +1,2 @@
--- What the proofs of the functions cite: `Places` of place values, `TestTurns` of what is left of the tests at each turn.
+-- What the proofs of the functions cite: `Places` of place values.
 pub mod Places
-pub mod TestTurns

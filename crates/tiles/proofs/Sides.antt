@@ -13,7 +13,7 @@ use Rattle.groups.specs.Groups.{addGroup}
 use Rattle.turboshake.specs.declared.Sponge.{Sponge}
 use Rattle.turboshake.specs.Stream.{drawn, after}
 use Rattle.turboshake.proofs.Drawn.{length-drawn, drawn-add}
-use Rattle.tiles.specs.Tiles.{tileOf, allAfter}
+use Rattle.stream_states.specs.States.{tileOf, allAfter}
 
 -- bytes j to j + n of a test are those that its state draws when it is j bytes on
 inner : (per j n : ℕ) (s : Sponge) (rest : List ℕ) → j + n ≤ per → take n (drop j (drawn per s ++ rest)) ≡ drawn n (after j s)

@@ -1,2 +1,2 @@
--- The bytes of several tests, side by side.
+-- The rows that the tests tile by tile are lent.
 pub mod Tiles

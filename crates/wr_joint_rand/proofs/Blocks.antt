@@ -1,6 +1,5 @@
 -- Tests taken some at a time, each with the next bytes of a stream. Assumes nothing.
 use mathlib.Core.Path.{_≡_, refl, sym, ap, ap₂, _∙_}
-use mathlib.Core.Logic.{_⊎_, ⊎-elim}
 use mathlib.Core.List.{List, [], _∷_, _++_, map, map-append, append-assoc, append-nil}
 use Prim.Native.Nat.{ℕ, zero, suc, _+_, _*_, _/_, _-_, _≤_, _<_, min}
 use native.Mathlib.Omega.{arith}
@@ -115,18 +114,6 @@ fewer per m n a b e h f = rw (e, ← f) h
 -- the bytes of one test are no more than those of all
 pub short-per : (T per n : ℕ) → 0 < T → T * per ≤ n → per ≤ n
 short-per T per n h l = le-trans (omega (arith, mul-le-mul-right per h)) l
-
--- a block that fits the buffer, or goes by tiles
-abbrev pub Small : (per n : ℕ) → Type 0
-Small per n = (n * per ≤ 8192) ⊎ (n ≤ 50)
-
-pub fits-some : (T per fit most r : ℕ) → 0 < T → 0 < per → fit ≡ 8192 / per → most ≡ min T 7 → most ≤ fit → r ≡ min T fit → ((0 < r) × (r ≤ T)) × (r * per ≤ 8192)
-fits-some T per fit most r t h f e l is =
-    let within : r ≤ 8192 / per = omega (arith, f, is) in
-    ((omega (arith, t, e, l, is), omega (arith, is)), le-div-iff-mul-le h .0 within)
-
-pub by-tiles : (per n : ℕ) → 8192 < n * per → Small per n → n ≤ 50
-by-tiles per n h s = ⊎-elim (λ l. absurd (omega (arith, h, l))) (λ l. l) s
 
 -- how many bytes the tests take
 pub some-bytes : (T per : ℕ) → 0 < T → 0 < per → 0 < T * per

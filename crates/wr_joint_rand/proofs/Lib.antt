@@ -1,4 +1,3 @@
--- What the proofs of the functions cite: `Blocks` of tests taken some at a time, `Seeds` of the stream that a seed makes. `Examples` are computed.
+-- What the proofs of the functions cite: `Blocks` of tests taken some at a time, `Seeds` of the stream that a seed makes.
 pub mod Blocks
 pub mod Seeds
-mod Examples

@@ -7,8 +7,8 @@ use lib.ListN.{length}
 use Rattle.field64.specs.Field.{p64}
 use Rattle.flp.specs.Tests.{testsOf}
 use Rattle.flp.specs.Encode.{elements}
-use Rattle.tiles.specs.Tiles.{tileOf, allAfter}
-use Rattle.tiles.proofs.States.{starts-ready, starts-drawn, last-after, last-ready, as-many}
+use Rattle.stream_states.specs.States.{tileOf, allAfter}
+use Rattle.stream_states.proofs.States.{starts-ready, starts-drawn, last-after, last-ready, as-many}
 use borrow.Author.Needs.{needs}
 use Rattle.tiles.proofs.run_block.Statement.{statement}
 use Rattle.tiles.proofs.run_block.Tie as tie

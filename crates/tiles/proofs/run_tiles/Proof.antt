@@ -13,9 +13,9 @@ use Rattle.flp.specs.Tests.{testsOf}
 use Rattle.flp.specs.Encode.{elements, trueSqNorm}
 use Rattle.flp.proofs.Gradient.{length-elements}
 use Rattle.groups.proofs.Swapped.{Fits, group-fits, group-cut, part-long, groups-start, groups-below, groups-next, groups-end}
-use Rattle.gradient.proofs.Norm.{usable-take, usable-drop, elements-cut, top-fits, top-grown, none-room, none-more, norm-start, norm-next, norm-end}
-use Rattle.tiles.specs.Tiles.{statesOf, tileOf, allAfter, Ready}
-use Rattle.tiles.proofs.States.{after-none, after-more, all-ready, roomy, length-states}
+use Rattle.gradient_groups.proofs.Norm.{usable-take, usable-drop, elements-cut, top-fits, top-grown, none-room, none-more, norm-start, norm-next, norm-end}
+use Rattle.stream_states.specs.States.{statesOf, tileOf, allAfter, Ready}
+use Rattle.stream_states.proofs.States.{after-none, after-more, all-ready, roomy, length-states}
 use Rattle.tiles.proofs.Sides.{sides-added}
 use Rattle.tiles.proofs.run_tiles.Statement.{statement}
 use Rattle.tiles.proofs.run_tiles.Tie as tie

@@ -1,0 +1,2 @@
+-- The states from which tests draw, and what they draw.
+pub mod States
