@@ -3,12 +3,15 @@
  *                     depends on secrets. Prints CALL WORDS REGISTERS and, by kind, how many of the words are
  *                     recognised: the most in any case
  *
+ * left own            the same of calls that are made on a stack of their own by examples/c/own_stack.h, on that stack
+ *                     and on the caller's; fails where a word is left, in a register too
+ *
  * LONG is 0 or 1: the short or the long form. CALL is the one to be made, without it all are. What the call gives lies
  * in the caller's frame and is not counted. */
-#define _GNU_SOURCE 1
+#include "../../examples/c/own_stack.h"
 #include "calls.h"
 
-#include <ucontext.h>
+#include <fenv.h>
 
 enum { SIZE = 1 << 18, STACK = SIZE / 8, PAINT = 0xa5, RUNS = 12, REGISTERS = 32 };
 
@@ -26,17 +29,20 @@ static __attribute__((noinline)) void frame(void) {
 /* With nothing in the registers that the call may save, or leave. */
 static void run(void) {
     __asm__ volatile("xor %%ebx, %%ebx; xor %%r12d, %%r12d; xor %%r13d, %%r13d\n"
-                     "xor %%r14d, %%r14d; xor %%r15d, %%r15d\n"
+                     "xor %%r14d, %%r14d; xor %%r15d, %%r15d; xor %%ecx, %%ecx; xor %%edx, %%edx; xor %%esi, %%esi\n"
+                     "xor %%r8d, %%r8d; xor %%r9d, %%r9d; xor %%r10d, %%r10d; xor %%r11d, %%r11d\n"
                      "pxor %%xmm0, %%xmm0; pxor %%xmm1, %%xmm1; pxor %%xmm2, %%xmm2; pxor %%xmm3, %%xmm3\n"
                      "pxor %%xmm4, %%xmm4; pxor %%xmm5, %%xmm5; pxor %%xmm6, %%xmm6; pxor %%xmm7, %%xmm7\n"
                      "pxor %%xmm8, %%xmm8; pxor %%xmm9, %%xmm9; pxor %%xmm10, %%xmm10; pxor %%xmm11, %%xmm11\n"
                      "pxor %%xmm12, %%xmm12; pxor %%xmm13, %%xmm13; pxor %%xmm14, %%xmm14; pxor %%xmm15, %%xmm15" ::
-                         : "rbx", "r12", "r13", "r14", "r15", "xmm0", "xmm1", "xmm2", "xmm3", "xmm4", "xmm5", "xmm6",
-                           "xmm7", "xmm8", "xmm9", "xmm10", "xmm11", "xmm12", "xmm13", "xmm14", "xmm15", "cc");
+                         : "rbx", "rcx", "rdx", "rsi", "r8", "r9", "r10", "r11", "r12", "r13", "r14", "r15", "xmm0",
+                           "xmm1", "xmm2", "xmm3", "xmm4", "xmm5", "xmm6", "xmm7", "xmm8", "xmm9", "xmm10", "xmm11",
+                           "xmm12", "xmm13", "xmm14", "xmm15", "cc");
     frame();
 }
 
 static void on_painted_stack(void (*call)(void)) {
+    feclearexcept(FE_ALL_EXCEPT); /* of the driver's own arithmetic: a context has them */
     memset(stack, PAINT, sizeof stack);
     body = call;
     getcontext(&there);
@@ -45,6 +51,32 @@ static void on_painted_stack(void (*call)(void)) {
     there.uc_link = &here;
     makecontext(&there, run, 0);
     swapcontext(&here, &there);
+}
+
+/* ---- a stack of its own below that */
+
+static uint64_t own[OWN_STACK_LEN / 8];
+static void (*own_body)(void);
+
+static void run_own(void *with) {
+    (void)with;
+    own_body();
+}
+
+static void with_own_stack(void) {
+    if (on_own_stack(own, sizeof own, run_own, NULL) != 0) {
+        perror("left: no stack of its own");
+        exit(1);
+    }
+    __asm__ volatile("fxsave %0" : "=m"(vectors));
+}
+
+static size_t left_on_own(void) {
+    size_t words = 0;
+    for (size_t i = 0; i < sizeof own / sizeof *own; i++) {
+        words += own[i] != 0;
+    }
+    return words;
 }
 
 /* ---- words that are recognised */
@@ -163,7 +195,8 @@ enum { RATE = 168, ENDS = 32 };
 static void xof(uint8_t usage, const uint8_t *seed, const void *binder, size_t binder_len, uint8_t *out, size_t out_len,
                 int whole) {
     const uint8_t tag[8] = {7, 1, 0xff, 0xff, 0xff, 0xff, 0, usage};
-    size_t len = sizeof tag + PINE_SEED_LEN + binder_len, in = len / RATE + 1, blocks = in + (out_len + RATE - 1) / RATE;
+    size_t len = sizeof tag + PINE_SEED_LEN + binder_len, in = len / RATE + 1;
+    size_t blocks = in + (out_len + RATE - 1) / RATE;
     uint8_t *message = (uint8_t *)calloc(in, RATE);
     uint64_t lanes[25] = {0}, word;
     uint32_t kind = out_len == PINE_SEED_LEN ? SEED_WORD : STREAM_WORD;
@@ -314,6 +347,8 @@ static uint64_t seen[STACK], highest[STACK], seen_registers[REGISTERS];
 static uint8_t differs[STACK], kind_at[STACK], register_differs[REGISTERS];
 static size_t tops[CALLS][2 + WORD_KINDS];
 
+static int by_own_stack;
+
 static int measure(int call, int kind) {
     uint64_t before = drawn;
     fill_rows(kind, calls[call].secret);
@@ -327,8 +362,13 @@ static int measure(int call, int kind) {
     if (calls[call].secret & BIT(AGGREGATE)) {
         know_elements(WORDS(AGGREGATE), LEN8(AGGREGATE));
     }
-    on_painted_stack(calls[call].call);
+    own_body = calls[call].call;
+    on_painted_stack(by_own_stack ? with_own_stack : own_body);
     know_rows(call);
+    if (by_own_stack && left_on_own() > 0) {
+        fprintf(stderr, "left: %s: %zu words on a stack of its own\n", calls[call].name, left_on_own());
+        exit(1);
+    }
     return 1;
 }
 
@@ -369,6 +409,7 @@ static void count(int call) {
 int main(int argc, char **argv) {
     static const int some[] = {NONZERO, LARGE, MIXED, NONZERO, LARGE, POSITIVE};
     int long_form = argc > 1 && argv[1][0] == '1';
+    by_own_stack = argc > 1 && strcmp(argv[1], "own") == 0;
     const char *only = argc > 2 ? argv[2] : NULL;
     for (int c = 0; c < CASES; c++) {
         if (cases[c].long_form && !long_form) {
@@ -393,6 +434,13 @@ int main(int argc, char **argv) {
                 return 1;
             }
             count(call);
+        }
+    }
+    for (int call = 0; by_own_stack && call < CALLS; call++) {
+        if (tops[call][0] > 0 || tops[call][1] > 0) {
+            fprintf(stderr, "left: %s from a stack of its own: %zu words, %zu in registers\n", calls[call].name,
+                    tops[call][0], tops[call][1]);
+            return 1;
         }
     }
     printf("call words registers");
