@@ -16,7 +16,7 @@
 #: make attack         make lib, then calls every function of the archive with arbitrary arguments, SEED=1 COUNT=1000000
 #:                     needs the kit, gcc, and valgrind for its last part; ten seconds after make lib
 #: make linked         make lib, then all checks of what people link: header, examples, arguments, stack, Rust
-#:                     needs the kit, and skips what gcc, g++, valgrind, pkg-config or cargo is missing for; half a
+#:                     needs the kit, and skips what gcc, g++, valgrind, pkg-config or cargo is missing for; a
 #:                     minute after make lib
 #: make differential   every call of the archive beside the original Rust, in both of its profiles; SEED, COUNT
 #:                     needs the kit, cargo, and ORACLE, see oracle/README.md; about 2 minutes after make lib

@@ -3,8 +3,11 @@
  * two aggregates together give the sum of the gradients. Then a report is withdrawn: each server takes out the
  * share that it added. C11, and C++ as well.
  *
+ * The client makes its report on a stack of its own, which is cleared afterwards: own_stack.h.
+ *
  * Before it is added, a report is checked on the sum of its two shares. That is for show: whoever adds them up sees
  * the gradient. Servers that must not see it need an FLP proof, which this library leaves to others. */
+#include "own_stack.h"
 #include "pine.h"
 
 #include <stdio.h>
@@ -66,6 +69,24 @@ static uint64_t add(uint64_t a, uint64_t b) {
     return a >= PINE_FIELD_MODULUS - b ? a - (PINE_FIELD_MODULUS - b) : a + b;
 }
 
+/* What the client's one call takes, and its answer. */
+typedef struct Cut {
+    PineParam param;
+    const double *gradient;
+    const uint8_t *nonce, *seeds;
+    uint64_t *leader, *helper;
+    size_t encoded_len;
+    uint8_t *joint_rand_seeds;
+    PineAnswer answer;
+} Cut;
+
+static void cut(void *with) {
+    Cut *c = (Cut *)with;
+    c->answer = pine_cut(c->param, c->gradient, DIMENSION, c->nonce, PINE_NONCE_LEN, c->seeds, PINE_CUT_SEEDS_LEN,
+                         c->leader, c->encoded_len, c->helper, c->encoded_len,
+                         c->joint_rand_seeds, PINE_JOINT_RAND_SEEDS_LEN);
+}
+
 /* The two aggregates added, as doubles. */
 static void print_sum(PineParam param, const uint64_t *left, const uint64_t *right) {
     double decoded[DIMENSION];
@@ -93,6 +114,7 @@ int main(void) {
 
     uint8_t nonce[PINE_NONCE_LEN], seeds[PINE_CUT_SEEDS_LEN], joint_rand_seeds[PINE_JOINT_RAND_SEEDS_LEN];
     uint64_t *full = (uint64_t *)row(input_len, 8);
+    void *stack = row(OWN_STACK_LEN, 1);
     /* the leader's and the helper's; a full share is a share of the measurement, then its results */
     uint64_t *share[2], *aggregate[2], *withdrawn[2];
     for (int s = 0; s < 2; s++) {
@@ -106,9 +128,14 @@ int main(void) {
         /* the client */
         next_bytes(nonce, sizeof nonce);
         next_bytes(seeds, sizeof seeds);
-        PineAnswer answer = pine_cut(param, gradients[report], DIMENSION, nonce, sizeof nonce, seeds, sizeof seeds,
-                                     share[0], encoded_len, share[1], encoded_len,
-                                     joint_rand_seeds, sizeof joint_rand_seeds);
+        Cut c = {param,    gradients[report], nonce, seeds, share[0], share[1], encoded_len, joint_rand_seeds,
+                 {0, 0}};
+        if (on_own_stack(stack, OWN_STACK_LEN, cut, &c) != 0) {
+            fputs("no stack of its own\n", stderr);
+            return 1;
+        }
+        explicit_bzero(seeds, sizeof seeds); /* they are of no use any more */
+        const PineAnswer answer = c.answer;
         if (answer.number == PINE_WR_TEST || answer.number == PINE_DRAWS) {
             /* rare: a test misses with these seeds; others may do. Clients who let a test miss set
              * num_wr_successes below num_wr_tests and param.wr_test_rule to PINE_ENOUGH_TESTS */
@@ -160,6 +187,7 @@ int main(void) {
     printf("\n");
 
     free(full);
+    free(stack);
     for (int s = 0; s < 2; s++) {
         free(share[s]);
         free(aggregate[s]);

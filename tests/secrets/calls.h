@@ -27,11 +27,12 @@ static uint64_t sub(uint64_t a, uint64_t b) { return a >= b ? a - b : a + (P - b
 
 enum {
     GRADIENT, STREAM, SEED, MEASUREMENT, RESULTS, SHARE, AGGREGATE, OTHER, FULL, JOINT_RAND, DECODED, CONTENTS, BODIES,
-    OLD_FILE, NEW_FILE, KEYS, COORDINATE, ELEMENT, ROWS
+    OLD_FILE, NEW_FILE, KEYS, COORDINATE, ELEMENT, NONCE, SEEDS, LEADER, HELPER, TWO_SEEDS, DRAWS, SAMPLED, ROWS
 };
 static const char *const row_names[] = {
     "gradient", "stream", "seed", "measurement", "results", "share", "aggregate", "other", "full", "joint_rand",
-    "decoded", "contents", "bodies", "file", "file", "keys", "coordinate", "element",
+    "decoded", "contents", "bodies", "file", "file", "keys", "coordinate", "element", "nonce", "seeds", "leader",
+    "helper", "given", "stream", "sampled",
 };
 static struct {
     uint8_t *at;
@@ -89,6 +90,14 @@ static void run_wr_tests(void) {
 static void run_wr_tests_seed(void) {
     GIVES(PineAnswer, pine_run_wr_tests_seed(param, WORDS(SHARE), LEN8(SHARE), BYTES(SEED), row[SEED].len,
                                               WORDS(RESULTS), LEN8(RESULTS)));
+}
+static void cut(void) {
+    GIVES(PineAnswer, pine_cut(param, DOUBLES(GRADIENT), LEN8(GRADIENT), BYTES(NONCE), row[NONCE].len, BYTES(SEEDS),
+                                row[SEEDS].len, WORDS(LEADER), LEN8(LEADER), WORDS(HELPER), LEN8(HELPER),
+                                BYTES(TWO_SEEDS), row[TWO_SEEDS].len));
+}
+static void sample(void) {
+    GIVES(PineAnswer, pine_sample(param, BYTES(DRAWS), row[DRAWS].len, WORDS(SAMPLED), LEN8(SAMPLED)));
 }
 static void valid(void) {
     GIVES(PineCircuit, pine_valid(param, num_shares, WORDS(FULL), LEN8(FULL), WORDS(JOINT_RAND), LEN8(JOINT_RAND)));
@@ -154,6 +163,8 @@ static const struct {
     {"encode_with_wr_joint_rand_seed", encode_seed, BIT(GRADIENT) | BIT(SEED), BIT(MEASUREMENT) | BIT(RESULTS), 1},
     {"run_wr_tests", run_wr_tests, BIT(SHARE), BIT(RESULTS), 1},
     {"run_wr_tests_seed", run_wr_tests_seed, BIT(SHARE) | BIT(SEED), BIT(RESULTS), 1},
+    {"cut", cut, BIT(GRADIENT) | BIT(SEEDS), BIT(LEADER) | BIT(HELPER) | BIT(TWO_SEEDS), 1},
+    {"sample", sample, BIT(DRAWS), BIT(SAMPLED), 1},
     {"valid", valid, BIT(FULL), 0, 1},
     {"valid_sq_norm_equal", valid_sq_norm_equal, BIT(FULL), 0, 1},
     {"gradient_part", gradient_part, BIT(FULL), 0, 1},
@@ -250,6 +261,10 @@ static void make_rows(int c) {
     make_row(NEW_FILE, row[OLD_FILE].len + PINE_FILE_ENTRY_LEN + 8 * d, head);
     make_row(KEYS, 10 * PINE_FILE_KEY_LEN, 0);
     make_row(COORDINATE, 8, 0), make_row(ELEMENT, 8, 0);
+    make_row(NONCE, PINE_NONCE_LEN, 0), make_row(SEEDS, PINE_CUT_SEEDS_LEN, 0);
+    make_row(LEADER, row[MEASUREMENT].len, 0), make_row(HELPER, row[MEASUREMENT].len, 0);
+    make_row(TWO_SEEDS, PINE_JOINT_RAND_SEEDS_LEN, 0);
+    make_row(DRAWS, row[MEASUREMENT].len + 8 * PINE_MORE_DRAWS, 0), make_row(SAMPLED, row[MEASUREMENT].len, 0);
     for (int i = 0; i < PINE_JOINT_RAND_LEN; i++) {
         WORDS(JOINT_RAND)[i] = draw_element();
     }
@@ -327,7 +342,17 @@ static double number_of(int kind, double scale) {
     }
 }
 
-/* Fills the rows with secrets that a call reads with values of a kind. The seed is of no kind. */
+/* The values that sample draws from: of two kinds some are not below p, as many as may be skipped. */
+static void fill_draws(int kind) {
+    size_t skipped = 0;
+    for (size_t i = 0; i < LEN8(DRAWS); i++) {
+        int over = (kind == LARGE || kind == FAR) && skipped < PINE_MORE_DRAWS && draw() % 8 == 0;
+        WORDS(DRAWS)[i] = over ? P + (draw() >> 32) % (0 - P) : element_of(kind, draw_element());
+        skipped += (size_t)over;
+    }
+}
+
+/* Fills the rows with secrets that a call reads with values of a kind. A seed is of no kind. */
 static void fill_rows(int kind, uint32_t rows) {
     static const int of_elements[] = {SHARE, AGGREGATE, OTHER, BODIES};
     size_t d = LEN8(GRADIENT), measured = LEN8(MEASUREMENT);
@@ -336,6 +361,12 @@ static void fill_rows(int kind, uint32_t rows) {
     }
     for (size_t i = 0; i < row[SEED].len; i++) {
         BYTES(SEED)[i] = (uint8_t)(draw() >> 56);
+    }
+    for (size_t i = 0; (rows & BIT(SEEDS)) && i < row[SEEDS].len; i++) {
+        BYTES(SEEDS)[i] = (uint8_t)(draw() >> 56);
+    }
+    if (rows & BIT(DRAWS)) {
+        fill_draws(kind);
     }
     if (kind == LARGE) {
         encode();

@@ -3,12 +3,15 @@
  *                     depends on secrets. Prints CALL WORDS REGISTERS and, by kind, how many of the words are
  *                     recognised: the most in any case
  *
+ * left own            the same of calls that are made on a stack of their own by examples/c/own_stack.h, on that stack
+ *                     and on the caller's; fails where a word is left, in a register too
+ *
  * LONG is 0 or 1: the short or the long form. CALL is the one to be made, without it all are. What the call gives lies
  * in the caller's frame and is not counted. */
-#define _GNU_SOURCE 1
+#include "../../examples/c/own_stack.h"
 #include "calls.h"
 
-#include <ucontext.h>
+#include <fenv.h>
 
 enum { SIZE = 1 << 18, STACK = SIZE / 8, PAINT = 0xa5, RUNS = 12, REGISTERS = 32 };
 
@@ -26,17 +29,20 @@ static __attribute__((noinline)) void frame(void) {
 /* With nothing in the registers that the call may save, or leave. */
 static void run(void) {
     __asm__ volatile("xor %%ebx, %%ebx; xor %%r12d, %%r12d; xor %%r13d, %%r13d\n"
-                     "xor %%r14d, %%r14d; xor %%r15d, %%r15d\n"
+                     "xor %%r14d, %%r14d; xor %%r15d, %%r15d; xor %%ecx, %%ecx; xor %%edx, %%edx; xor %%esi, %%esi\n"
+                     "xor %%r8d, %%r8d; xor %%r9d, %%r9d; xor %%r10d, %%r10d; xor %%r11d, %%r11d\n"
                      "pxor %%xmm0, %%xmm0; pxor %%xmm1, %%xmm1; pxor %%xmm2, %%xmm2; pxor %%xmm3, %%xmm3\n"
                      "pxor %%xmm4, %%xmm4; pxor %%xmm5, %%xmm5; pxor %%xmm6, %%xmm6; pxor %%xmm7, %%xmm7\n"
                      "pxor %%xmm8, %%xmm8; pxor %%xmm9, %%xmm9; pxor %%xmm10, %%xmm10; pxor %%xmm11, %%xmm11\n"
                      "pxor %%xmm12, %%xmm12; pxor %%xmm13, %%xmm13; pxor %%xmm14, %%xmm14; pxor %%xmm15, %%xmm15" ::
-                         : "rbx", "r12", "r13", "r14", "r15", "xmm0", "xmm1", "xmm2", "xmm3", "xmm4", "xmm5", "xmm6",
-                           "xmm7", "xmm8", "xmm9", "xmm10", "xmm11", "xmm12", "xmm13", "xmm14", "xmm15", "cc");
+                         : "rbx", "rcx", "rdx", "rsi", "r8", "r9", "r10", "r11", "r12", "r13", "r14", "r15", "xmm0",
+                           "xmm1", "xmm2", "xmm3", "xmm4", "xmm5", "xmm6", "xmm7", "xmm8", "xmm9", "xmm10", "xmm11",
+                           "xmm12", "xmm13", "xmm14", "xmm15", "cc");
     frame();
 }
 
 static void on_painted_stack(void (*call)(void)) {
+    feclearexcept(FE_ALL_EXCEPT); /* of the driver's own arithmetic: a context has them */
     memset(stack, PAINT, sizeof stack);
     body = call;
     getcontext(&there);
@@ -47,11 +53,37 @@ static void on_painted_stack(void (*call)(void)) {
     swapcontext(&here, &there);
 }
 
+/* ---- a stack of its own below that */
+
+static uint64_t own[OWN_STACK_LEN / 8];
+static void (*own_body)(void);
+
+static void run_own(void *with) {
+    (void)with;
+    own_body();
+}
+
+static void with_own_stack(void) {
+    if (on_own_stack(own, sizeof own, run_own, NULL) != 0) {
+        perror("left: no stack of its own");
+        exit(1);
+    }
+    __asm__ volatile("fxsave %0" : "=m"(vectors));
+}
+
+static size_t left_on_own(void) {
+    size_t words = 0;
+    for (size_t i = 0; i < sizeof own / sizeof *own; i++) {
+        words += own[i] != 0;
+    }
+    return words;
+}
+
 /* ---- words that are recognised */
 
-enum { COORDINATES, ELEMENTS, TABLE, RESULT, NORM, SEED_WORD, STREAM_WORD, STATE, WEIGHT, ANY, WORD_KINDS };
-static const char *const word_kinds[] = {"coordinates", "elements", "tables", "results", "norm",
-                                         "seed",        "stream",   "state",  "weights", "other"};
+enum { COORDINATES, ELEMENTS, SHARES, TABLE, RESULT, NORM, SEED_WORD, STREAM_WORD, STATE, WEIGHT, ANY, WORD_KINDS };
+static const char *const word_kinds[] = {"coordinates", "elements", "shares", "tables",  "results", "norm",
+                                         "seeds",       "stream",   "state",  "weights", "other"};
 enum { KNOWN = 1 << 23 };
 static struct {
     uint64_t word;
@@ -125,8 +157,8 @@ static void know_lanes(const uint64_t *lanes, int count) {
 
 static uint64_t turned(uint64_t x, int by) { return by == 0 ? x : x << by | x >> (64 - by); }
 
-/* Keccak-p[1600, 12]; what comes up on the way is known as the state */
-static void permute(uint64_t a[25]) {
+/* Keccak-p[1600, 12]; where wanted, what comes up on the way is known as the state */
+static void permute(uint64_t a[25], int wanted) {
     static const uint64_t constants[12] = {
         0x000000008000808b, 0x800000000000008b, 0x8000000000008089, 0x8000000000008003,
         0x8000000000008002, 0x8000000000000080, 0x000000000000800a, 0x800000008000000a,
@@ -149,34 +181,122 @@ static void permute(uint64_t a[25]) {
             a[i] = b[i] ^ (~b[i / 5 * 5 + (i + 1) % 5] & b[i / 5 * 5 + (i + 2) % 5]);
         }
         a[0] ^= constants[round];
-        know_lanes(c, 5), know_lanes(b, 25);
-        know_lanes(a + (round < 11 ? 0 : 21), round < 11 ? 25 : 4); /* the first 21 of the last are the stream */
+        if (wanted) {
+            know_lanes(c, 5), know_lanes(b, 25);
+            know_lanes(a, round < 11 ? 25 : 0); /* the last may be the stream */
+        }
     }
 }
 
-/* The stream of the wraparound tests that the seed makes, and the states that it comes from. */
-static void know_sponge(void) {
-    static const uint8_t tag[8] = {7, 1, 0xff, 0xff, 0xff, 0xff, 0, 8};
-    size_t blocks = row[STREAM].len / 168 + 2;
-    uint8_t *drawn_bytes = (uint8_t *)malloc(168 * blocks);
-    uint64_t lanes[25] = {0};
-    if (drawn_bytes == NULL) {
+enum { RATE = 168, ENDS = 32 };
+
+/* Fills out with the stream of a seed and a binder, and knows the seed, the stream and the states that it comes from:
+ * of a long sponge, unless whole, those of the first and the last blocks. */
+static void xof(uint8_t usage, const uint8_t *seed, const void *binder, size_t binder_len, uint8_t *out, size_t out_len,
+                int whole) {
+    const uint8_t tag[8] = {7, 1, 0xff, 0xff, 0xff, 0xff, 0, usage};
+    size_t len = sizeof tag + PINE_SEED_LEN + binder_len, in = len / RATE + 1;
+    size_t blocks = in + (out_len + RATE - 1) / RATE;
+    uint8_t *message = (uint8_t *)calloc(in, RATE);
+    uint64_t lanes[25] = {0}, word;
+    uint32_t kind = out_len == PINE_SEED_LEN ? SEED_WORD : STREAM_WORD;
+    if (message == NULL) {
         abort();
     }
-    memcpy(lanes, tag, 8), memcpy(lanes + 1, row[SEED].at, 16);
-    lanes[3] = 1, lanes[20] = UINT64_C(1) << 63;
-    for (size_t k = 0; k < blocks; k++) {
-        permute(lanes);
-        memcpy(drawn_bytes + 168 * k, lanes, 168);
+    memcpy(message, tag, sizeof tag), memcpy(message + sizeof tag, seed, PINE_SEED_LEN);
+    if (binder_len > 0) {
+        memcpy(message + sizeof tag + PINE_SEED_LEN, binder, binder_len);
     }
-    know_bytes(row[SEED].at, row[SEED].len, 1, SEED_WORD);
-    know_bytes(drawn_bytes, 168 * blocks, 1, STREAM_WORD);
-    free(drawn_bytes);
+    message[len] ^= 1, message[in * RATE - 1] ^= 0x80;
+    for (size_t k = 0; k < blocks; k++) {
+        for (size_t i = 0; k < in && i < RATE / 8; i++) {
+            memcpy(&word, message + k * RATE + 8 * i, 8);
+            lanes[i] ^= word;
+        }
+        if (k >= in) {
+            size_t at = (k - in) * RATE, n = out_len - at < RATE ? out_len - at : RATE;
+            memcpy(out + at, lanes, n);
+            know_bytes(out + at, n, 8, kind);
+        }
+        int wanted = whole || k < ENDS || blocks - k <= ENDS;
+        if (wanted) {
+            know_lanes(lanes, 25);
+        }
+        permute(lanes, wanted);
+    }
+    know_bytes(seed, PINE_SEED_LEN, 1, SEED_WORD);
+    know_bytes(out, out_len, 1, kind);
+    free(message);
+}
+
+/* The stream of the wraparound tests that a seed makes. */
+static void know_tests_stream(const uint8_t *seed) {
+    size_t len = row[STREAM].len + 2 * RATE;
+    uint8_t *bytes = (uint8_t *)malloc(len);
+    if (bytes == NULL) {
+        abort();
+    }
+    xof(8, seed, NULL, 0, bytes, len, 1);
+    free(bytes);
+}
+
+/* The seed of the joint randomness of two shares, by the places of their blinds among the five seeds. */
+static void know_joint_rand(uint8_t part_usage, uint8_t seed_usage, const int blinds[2], size_t len, uint8_t *joint) {
+    static const uint8_t zeros[PINE_SEED_LEN];
+    uint8_t parts[2 * PINE_SEED_LEN], *binder = (uint8_t *)malloc(1 + PINE_NONCE_LEN + 8 * len);
+    if (binder == NULL) {
+        abort();
+    }
+    for (int s = 0; s < 2; s++) {
+        binder[0] = (uint8_t)s;
+        memcpy(binder + 1, BYTES(NONCE), PINE_NONCE_LEN);
+        memcpy(binder + 1 + PINE_NONCE_LEN, BYTES(s == 0 ? LEADER : HELPER), 8 * len);
+        xof(part_usage, BYTES(SEEDS) + PINE_SEED_LEN * blinds[s], binder, 1 + PINE_NONCE_LEN + 8 * len,
+            parts + PINE_SEED_LEN * s, PINE_SEED_LEN, 0);
+    }
+    xof(seed_usage, zeros, parts, sizeof parts, joint, PINE_SEED_LEN, 0);
+    free(binder);
+}
+
+/* All that a cut makes on its way. */
+static void know_cut(void) {
+    static const int wr_blinds[2] = {3, 1}, vf_blinds[2] = {4, 2};
+    static const uint8_t number = 1;
+    size_t d = LEN8(GRADIENT), most = row[DRAWS].len;
+    uint8_t joint[PINE_JOINT_RAND_SEEDS_LEN], *values = (uint8_t *)malloc(most);
+    if (values == NULL) {
+        abort();
+    }
+    for (size_t i = 0; i < LEN8(LEADER); i++) {
+        know(WORDS(LEADER)[i], SHARES), know(WORDS(HELPER)[i], SHARES);
+        WORDS(MEASUREMENT)[i] = add(WORDS(LEADER)[i], WORDS(HELPER)[i]);
+    }
+    xof(1, BYTES(SEEDS), &number, 1, values, most, 0);
+    know_joint_rand(10, 9, wr_blinds, d + 2 * derived.pine.sq_norm_bits, joint);
+    know_joint_rand(7, 6, vf_blinds, LEN8(LEADER), joint + PINE_SEED_LEN);
+    if (memcmp(values, BYTES(HELPER), row[HELPER].len) != 0 || memcmp(joint, BYTES(TWO_SEEDS), sizeof joint) != 0) {
+        fprintf(stderr, "left: a cut is another here\n");
+        exit(1);
+    }
+    know_tests_stream(joint);
+    PineAnswer answer = pine_run_wr_tests_seed(param, WORDS(MEASUREMENT), d, joint, PINE_SEED_LEN, WORDS(RESULTS),
+                                               LEN8(RESULTS));
+    if (answer.number != PINE_ACCEPTED) {
+        exit(1);
+    }
+    free(values);
 }
 
 /* What the rows of a call have after it. What it read and wrote over is known from before. */
 static void know_rows(int call) {
     uint32_t rows = calls[call].secret | calls[call].written;
+    if (rows & BIT(SEEDS)) {
+        know_cut();
+        rows |= BIT(MEASUREMENT) | BIT(RESULTS);
+    }
+    if (rows & BIT(DRAWS)) {
+        know_bytes(BYTES(DRAWS), row[DRAWS].len, 8, SHARES);
+    }
     static const int of_elements[] = {SHARE, AGGREGATE, OTHER, FULL, BODIES, ELEMENT, MEASUREMENT};
     static const int of_doubles[] = {GRADIENT, DECODED, COORDINATE};
     for (size_t i = 0; i < sizeof of_elements / sizeof *of_elements; i++) {
@@ -208,7 +328,7 @@ static void know_rows(int call) {
         know((uint64_t)sum, NORM), know((uint64_t)(sum >> 64), NORM);
     }
     if (rows & BIT(SEED)) {
-        know_sponge();
+        know_tests_stream(BYTES(SEED));
     }
     if (rows & (BIT(OLD_FILE) | BIT(NEW_FILE))) {
         size_t from = row[OLD_FILE].from, next = from + PINE_FILE_ENTRY_LEN; /* there with an entry more */
@@ -227,6 +347,8 @@ static uint64_t seen[STACK], highest[STACK], seen_registers[REGISTERS];
 static uint8_t differs[STACK], kind_at[STACK], register_differs[REGISTERS];
 static size_t tops[CALLS][2 + WORD_KINDS];
 
+static int by_own_stack;
+
 static int measure(int call, int kind) {
     uint64_t before = drawn;
     fill_rows(kind, calls[call].secret);
@@ -240,8 +362,13 @@ static int measure(int call, int kind) {
     if (calls[call].secret & BIT(AGGREGATE)) {
         know_elements(WORDS(AGGREGATE), LEN8(AGGREGATE));
     }
-    on_painted_stack(calls[call].call);
+    own_body = calls[call].call;
+    on_painted_stack(by_own_stack ? with_own_stack : own_body);
     know_rows(call);
+    if (by_own_stack && left_on_own() > 0) {
+        fprintf(stderr, "left: %s: %zu words on a stack of its own\n", calls[call].name, left_on_own());
+        exit(1);
+    }
     return 1;
 }
 
@@ -282,6 +409,7 @@ static void count(int call) {
 int main(int argc, char **argv) {
     static const int some[] = {NONZERO, LARGE, MIXED, NONZERO, LARGE, POSITIVE};
     int long_form = argc > 1 && argv[1][0] == '1';
+    by_own_stack = argc > 1 && strcmp(argv[1], "own") == 0;
     const char *only = argc > 2 ? argv[2] : NULL;
     for (int c = 0; c < CASES; c++) {
         if (cases[c].long_form && !long_form) {
@@ -306,6 +434,13 @@ int main(int argc, char **argv) {
                 return 1;
             }
             count(call);
+        }
+    }
+    for (int call = 0; by_own_stack && call < CALLS; call++) {
+        if (tops[call][0] > 0 || tops[call][1] > 0) {
+            fprintf(stderr, "left: %s from a stack of its own: %zu words, %zu in registers\n", calls[call].name,
+                    tops[call][0], tops[call][1]);
+            return 1;
         }
     }
     printf("call words registers");

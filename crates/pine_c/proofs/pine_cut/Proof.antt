@@ -24,9 +24,42 @@ same-length-3 c = search needs
 
 returns : tie.Need-returns
 returns c =
-    let s = c .before .before .before .before .before .before .before .before .before .before .before .before .before .before .before .before .before in
-    c .before .before .before .before .before .before .cut .ensures ∙ ap (λ (i : PineParam). cutOf Field64 i (s .args .gradient .now) (s .args .nonce .now) (s .args .seeds .now) (s .args .leader .now) (s .args .helper .now) (s .args .given .now)) (c .before .before .before .before .before .before .before .before .before .before .param-of .ensures)
+    let s = c .before .before .before .before .before .before .before .before .before .before .before .before .before .before .before .before .before .before in
+    c .before .before .before .before .before .before .cut .ensures ∙ ap (λ (i : PineParam). cutOf Field64 i (s .args .gradient .now) (s .args .nonce .now) (s .args .seeds .now) (s .args .leader .now) (s .args .helper .now) (s .args .given .now)) (c .before .before .before .before .before .before .before .before .before .before .before .param-of .ensures)
+
+cut-requires-2 : tie.Need-cut-requires-2
+cut-requires-2 c κs = search needs
+
+wipe-requires : tie.Need-wipe-requires
+wipe-requires c κs = search needs
+
+same-length-4 : tie.Need-same-length-4
+same-length-4 c = search needs
+
+same-length-5 : tie.Need-same-length-5
+same-length-5 c = search needs
+
+same-length-6 : tie.Need-same-length-6
+same-length-6 c = search needs
+
+returns-2 : tie.Need-returns-2
+returns-2 c =
+    let s = c .before .before .before .before .before .before .before .before .before .before .before .before .before .before .before .before .before .before .before in
+    c .before .before .before .before .before .before .before .cut2 .ensures ∙ ap (λ (i : PineParam). cutOf Field64 i (s .args .gradient .now) (s .args .nonce .now) (s .args .seeds .now) (s .args .leader .now) (s .args .helper .now) (s .args .given .now)) (c .before .before .before .before .before .before .before .before .before .before .before .before .param-of .ensures)
 
 pub pine-cut-spec : {M : Type 1} → statement M
 pine-cut-spec =
-    tie.close (tie.spec param-of-requires cut-requires same-length same-length-2 same-length-3 returns)
+    tie.close
+    (tie.spec
+    param-of-requires
+    cut-requires
+    same-length
+    same-length-2
+    same-length-3
+    returns
+    cut-requires-2
+    wipe-requires
+    same-length-4
+    same-length-5
+    same-length-6
+    returns-2)
