@@ -28,13 +28,10 @@ use Rattle.flp.proofs.Circuits.{test-bits-below}
 use Rattle.flp.proofs.TrueNorm.{norm-mod}
 use Rattle.measurement.specs.Parts.{Usable}
 use Rattle.gradient_rules.proofs.Searches.{all-usable}
-use Rattle.turboshake.specs.declared.Sponge.{Sponge}
 use Rattle.turboshake.specs.TurboShake.{Bytes}
-use Rattle.turboshake.specs.Stream.{drawn}
 use Rattle.wr_joint_rand.specs.WrJointRand.{wrStream}
 use Rattle.wr_joint_rand.proofs.Seeds.{stream-long}
 use Rattle.sampler.specs.Sampler.{drawLimit, valuesOf, sampled, drawsRule}
-use Rattle.sampler.specs.Drawing.{toCome}
 use Rattle.shares.specs.Shares.{helperStream, helperShare, wrSeed, vfJointRand}
 use Rattle.shares.proofs.Seeds.{rule-met}
 use Rattle.cut.specs.Cut.{wrStreamOf, leaderShare, vfSeed, cutOutcome, cutRules, cutAnswer, cutOf}
@@ -178,23 +175,20 @@ module _ (F : Field) (i : PineParam) (g : List Float) (nonce seeds leader helper
 
   -- ---- rule 18
 
-  module _ (met : MetUpTo 10 F i g nonce seeds leader helper given) (s : Sponge) (is : drawn (8 * drawLimit n) s ≡ helperStream n seeds) (t : Bool) (et : t ≡ leb n (length (toCome (F .p) (drawLimit n) s))) where
+  module _ (met : MetUpTo 10 F i g nonce seeds leader helper given) (t : Bool) (et : t ≡ leb n (length (valuesOf (F .p) (drawLimit n) (helperStream n seeds)))) where
     abbrev found : ℕ
     found = length (valuesOf (F .p) (drawLimit n) (helperStream n seeds))
-
-    found-is : t ≡ leb n found
-    found-is = et ∙ ap (λ (b : List ℕ). leb n (length (valuesOf (F .p) (drawLimit n) b))) is
 
     pub draws-refused : t ≡ false → cutOutcome (answer 18 0) leader helper given ≡ cutOf F i g nonce seeds leader helper given
     unfolding cutRules drawsRule
     draws-refused e =
-        let few : ltb found n ≡ true = lt-ltb found n (leb-false n found (sym found-is ∙ e)) in
+        let few : ltb found n ≡ true = lt-ltb found n (leb-false n found (sym et ∙ e)) in
         refused (answer 18 0) (others 10 rules met ∙ rw few) (λ z. omega (arith, z))
 
     pub draws-accepted : t ≡ true → drawsRule (F .p) n (helperStream n seeds) ≡ accepted
     unfolding drawsRule
     draws-accepted e =
-        let some : ltb found n ≡ false = le-ltb found n (leb-true n found (sym found-is ∙ e)) in
+        let some : ltb found n ≡ false = le-ltb found n (leb-true n found (sym et ∙ e)) in
         rw some
 
     pub draws-met : t ≡ true → MetUpTo 11 F i g nonce seeds leader helper given

@@ -111,15 +111,14 @@ fn cut_from_norm(
     if of_norm.number != 0 {
         return of_norm;
     }
-    let most = pine.encoded_input_len + sampler::MORE_DRAWS;
-    let stream = shares::helper_stream(seeds);
-    if !sampler::has_values(stream, most as usize, pine.encoded_input_len as usize) {
+    let made = wr_parts::wr_seed(param, pine, gradient, v, nonce, seeds);
+    if !made.enough {
         return Answer {
             number: rules::DRAWS,
             place: 0,
         };
     }
-    let wr = shares::wr_seed(param, pine, gradient, v, nonce, seeds);
+    let wr = made.seed;
     cut_from_tests(param, gradient, nonce, seeds, wr, leader, helper, given)
 }
 

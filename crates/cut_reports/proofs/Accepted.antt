@@ -33,7 +33,8 @@ use Rattle.sampler.specs.Sampler.{drawLimit, valuesOf, sampled, drawsRule}
 use Rattle.sampler.proofs.Values.{values-add, values-front}
 use Rattle.joint_rand.specs.JointRand.{jointRandSeed}
 use Rattle.shares.specs.Shares.{measShareSeed₁, wrJointRand, vfJointRand, helperBytes, helperStream, gradientAndNormLen, gradientAndNorm, helperShare, helperFront, wrSeed}
-use Rattle.shares.proofs.Seeds.{rule-met, enough, sampled-long, sampled-below, front-long}
+use Rattle.shares.proofs.Seeds.{rule-met, enough, sampled-long, sampled-below}
+use Rattle.wr_parts.proofs.Front.{front-long}
 use Rattle.cut.specs.Cut.{wrStreamOf, leaderShare, vfSeed, Cut, cutOutcome, cutRules, cutAnswer, cutOf}
 use Rattle.cut.proofs.Cutting.{measurement-below}
 use Rattle.correctness.specs.Correctness.{Report}

@@ -1,6 +1,7 @@
 // Keccak-p[1600, 12], the permutation of TurboSHAKE128, on 25 lanes: lane A[x, y] stands at x + 5 y.
 ghost use mathlib.Core.Path.{_≡_};
-ghost use Rattle.keccak.specs.Keccak.{theta, rho, pi, chi, iota, keccakP};
+ghost use Rattle.keccak.specs.Keccak.{keccakP};
+ghost use Rattle.keccak.specs.Halves.{firstHalf, secondHalf};
 
 // The constants of the twelve rounds.
 const ROUND_CONSTANTS: [u64; 12] = [
@@ -18,10 +19,12 @@ const ROUND_CONSTANTS: [u64; 12] = [
     0x8000_0000_8000_8008,
 ];
 
-// One round, plane by plane of what comes out, so that few lanes are held at a time. Its names have their x, then
-// their y.
-fn round(a: [u64; 25], rc: u64) -> [u64; 25]
-    ensures { λ r. ⌜ r ≡ iota rc (chi (pi (rho (theta a)))) ⌝ }
+// A round is in two halves, each small enough that LLVM puts it in its place, twice in a turn of the loop. It goes plane
+// by plane of what comes out, so that few lanes are held at a time. The names have their x, then their y.
+
+// The first half: what theta adds to each column, then the planes y = 0 and 1 of what comes out.
+fn begin_round(a: [u64; 25], rc: u64) -> [u64; 15]
+    ensures { λ r. ⌜ r ≡ firstHalf rc a ⌝ }
 {
     // theta
     let c0 = a[0] ^ a[5] ^ a[10] ^ a[15] ^ a[20];
@@ -65,6 +68,34 @@ fn round(a: [u64; 25], rc: u64) -> [u64; 25]
     let e21 = b21 ^ (!b31 & b41);
     let e31 = b31 ^ (!b41 & b01);
     let e41 = b41 ^ (!b01 & b11);
+    [
+        d0,
+        d1,
+        d2,
+        d3,
+        d4,
+        e00,
+        e10,
+        e20,
+        e30,
+        e40,
+        e01,
+        e11,
+        e21,
+        e31,
+        e41,
+    ]
+}
+
+// The second half: these two planes, then the other three.
+fn end_round(a: [u64; 25], begun: [u64; 15]) -> [u64; 25]
+    ensures { λ r. ⌜ r ≡ secondHalf a begun ⌝ }
+{
+    let d0 = begun[0];
+    let d1 = begun[1];
+    let d2 = begun[2];
+    let d3 = begun[3];
+    let d4 = begun[4];
     // rho and pi, then chi, for the plane y = 2
     let t02 = a[1] ^ d1;
     let b02 = (t02 << 1) | (t02 >> 63);
@@ -114,16 +145,16 @@ fn round(a: [u64; 25], rc: u64) -> [u64; 25]
     let e34 = b34 ^ (!b44 & b04);
     let e44 = b44 ^ (!b04 & b14);
     [
-        e00,
-        e10,
-        e20,
-        e30,
-        e40,
-        e01,
-        e11,
-        e21,
-        e31,
-        e41,
+        begun[5],
+        begun[6],
+        begun[7],
+        begun[8],
+        begun[9],
+        begun[10],
+        begun[11],
+        begun[12],
+        begun[13],
+        begun[14],
         e02,
         e12,
         e22,
@@ -142,16 +173,18 @@ fn round(a: [u64; 25], rc: u64) -> [u64; 25]
     ]
 }
 
-// The permutation, in place.
+// The permutation, in place: two rounds a turn.
 pub fn permute(lanes: &mut [u64; 25])
     ensures { λ _. ⌜ now (lanes .exit) ≡ keccakP (now (lanes .entry)) ⌝ }
 {
-    // A constant is laid out anew where it is named: here once, not in each round.
+    // A constant is laid out anew where it is named: here once, not in each turn.
     let constants = ROUND_CONSTANTS;
     let mut s = *lanes;
     let mut i: usize = 0;
-    while i < 12 {
-        let next = round(s, constants[i]);
+    while i < 6 {
+        let k = 2 * i;
+        let middle = end_round(s, begin_round(s, constants[k]));
+        let next = end_round(middle, begin_round(middle, constants[k + 1]));
         s = next;
         i += 1;
     }

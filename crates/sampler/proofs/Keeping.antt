@@ -7,19 +7,21 @@ use native.Mathlib.Nat.{add-zero, lt-of-not-le}
 use native.Mathlib.Decide.{decLe}
 use native.Mathlib.Numerals.{add-one}
 use native.Mathlib.Omega.{arith}
-use lib.ListN.{length, getD, take, drop, set, length-append, length-set}
+use lib.ListN.{length, getD, take, drop, set, replicate, length-append, length-set, length-replicate, drop-of-length-le}
 use lib.Seq.{take-suc, take-suc-set, take-set-le, drop-set-lt, drop-drop, getD-drop, take-all, take-at, drop-at, take-append-le, take-append-add, length-take-le}
 use lib.Dec.{ltb, leb}
 use borrow.Author.Tests.{le-leb, lt-leb}
 use mir.Val.{boolByte}
+use Rattle.rows.specs.Rows.{Below}
+use Rattle.rows.proofs.Elements.{below-parts}
 use Rattle.turboshake.specs.declared.Sponge.{Sponge}
 use Rattle.turboshake.specs.Stream.{drawn, after}
 use Rattle.turboshake.proofs.Drawn.{length-drawn, drawn-add, after-add}
 use Rattle.turboshake.proofs.Shake.{drawn-front}
 use Rattle.sampler.specs.declared.Draws.{Draws}
 use Rattle.sampler.specs.Sampler.{keptOf, valuesOf}
-use Rattle.sampler.specs.Drawing.{toCome, Begins, DrewNext, Drawing, DrewFrom}
-use Rattle.sampler.proofs.Values.{kept-append, values-none, values-length, values-add, values-front}
+use Rattle.sampler.specs.Drawing.{toCome, Begins, DrewNext, Drawing, DrewFrom, DrewRow}
+use Rattle.sampler.proofs.Values.{kept-append, values-none, values-length, values-below, values-add, values-front}
 
 -- the row's front has those kept of the first i elements, and from i on it is as it was
 abbrev pub Keeping : (p : ℕ) (row₀ row : List ℕ) (k i : ℕ) → Type 0
@@ -218,17 +220,36 @@ module _ (p : ℕ) (s : Sponge) (n : ℕ) where
     pub too-few : (w : ℕ) → length row ≤ w → r .count < length row → false ≡ leb w (length (valuesOf p n (drawn (8 * n) s)))
     too-few w h g = sym (lt-leb w (length (valuesOf p n (drawn (8 * n) s))) (omega (arith, count-of, none-left (d .ends g))))
 
-    -- ---- of a row for which there are enough
+    -- ---- of a row that is to be full
 
-    module _ (h : length row ≤ length (toCome p n s)) where
-      full : r .count ≡ length row
-      full = go (decLe (length row) (r .count))
-        where
-          go : Dec (length row ≤ r .count) → r .count ≡ length row
-          go (yes l) = omega (arith, d .drawing .within)
-          go (no g) =
-              let l = lt-of-not-le g in
-              absurd (omega (arith, none-left (d .ends l), count-of, h))
+    -- it is
+    pub row-full : length row ≤ r .count → DrewRow p (toCome p n s) r row
+    row-full h =
+        let all : toCome p n s ≡ row ++ left = all-of ∙ ap (λ (xs : List ℕ). xs ++ left) (sym (d .drawing .begins .0) ∙ take-all (r .count) row h) in
+        record {
+          values = λ _. sym (ap (take (length row)) all ∙ take-at row left (length row) refl);
+          below = below-parts p row left (subst (Below p) all (values-below p n (drawn (8 * n) s))) .0;
+          rest = sym (ap (drop (length row)) all ∙ drop-at row left (length row) refl);
+          place = d .drawing .place;
+        }
 
-      pub row-drawn : toCome p n s ≡ row ++ toCome p (r .left) (r .stream)
-      row-drawn = all-of ∙ ap (λ (xs : List ℕ). xs ++ left) (sym (d .drawing .begins .0) ∙ take-all (r .count) row (omega (arith, full)))
+    -- no draw is left before it is, and it has zeros
+    pub row-zero : 0 < p → r .count < length row → (zeros : List ℕ) → zeros ≡ replicate (length row) 0 → DrewRow p (toCome p n s) r zeros
+    row-zero positive h zeros e =
+        let long : length zeros ≡ length row = ap length e ∙ length-replicate (length row) 0 in
+        let few : length (toCome p n s) < length zeros = omega (arith, count-of, none-left (d .ends h), long) in
+        let over : length (toCome p n s) ≤ length zeros = omega (arith, few) in
+        record {
+          values = λ g. absurd (omega (arith, few, g));
+          below = subst (Below p) (sym e) (zeros-below (length row));
+          rest = no-more left (none-left (d .ends h)) ∙ sym (drop-of-length-le (toCome p n s) over);
+          place = d .drawing .place;
+        }
+      where
+        zeros-below : (k : ℕ) → Below p (replicate k 0)
+        zeros-below zero = tt
+        zeros-below (suc k) = (positive, zeros-below k)
+
+        no-more : (xs : List ℕ) → length xs ≡ 0 → xs ≡ []
+        no-more [] z = refl
+        no-more (x ∷ xs) z = absurd (omega (arith, z))

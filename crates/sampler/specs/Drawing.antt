@@ -2,7 +2,8 @@
 use Prim.Native.Nat.{ℕ, _+_, _-_, _*_, _<_, _≤_}
 use mathlib.Core.Path.{_≡_}
 use mathlib.Core.List.{List}
-use lib.ListN.{length, take}
+use lib.ListN.{length, take, drop}
+use Rattle.rows.specs.Rows.{Below}
 use Rattle.turboshake.specs.declared.Sponge.{Sponge}
 use Rattle.turboshake.specs.Stream.{drawn, after}
 use Rattle.sampler.specs.declared.Draws.{Draws}
@@ -36,3 +37,10 @@ pub record Drawing (p : ℕ) (s : Sponge) (n : ℕ) (r : Draws) (row : List ℕ)
 pub record DrewFrom (p : ℕ) (s : Sponge) (n : ℕ) (r : Draws) (row : List ℕ) : Type 0 where
   pub drawing : Drawing p s n r row
   pub ends : r .count < length row → r .left ≡ 0
+
+-- a row was drawn from all that was to come: its first values where there are enough, and field numbers in any case
+pub record DrewRow (p : ℕ) (all : List ℕ) (r : Draws) (row : List ℕ) : Type 0 where
+  pub values : length row ≤ length all → row ≡ take (length row) all
+  pub below : Below p row
+  pub rest : toCome p (r .left) (r .stream) ≡ drop (length row) all
+  pub place : r .stream .at < 168

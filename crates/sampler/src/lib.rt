@@ -6,7 +6,6 @@ use pine::record::Pine;
 use rules::Answer;
 use turboshake::Sponge;
 ghost use mathlib.Core.Path.{_≡_};
-ghost use mathlib.Core.List.{_++_};
 ghost use Prim.Native.Nat.{_+_, _*_, _/_, _^_, _≤_, _<_, min};
 ghost use lib.ListN.{length, take};
 ghost use lib.Dec.{leb};
@@ -14,7 +13,7 @@ ghost use Rattle.field64.specs.Field.{p64};
 ghost use Rattle.pine.specs.Param.{Field64};
 ghost use Rattle.rows.specs.Outcome.{outcome};
 ghost use Rattle.sampler.specs.Sampler.{keptOf, valuesOf, sampleOf};
-ghost use Rattle.sampler.specs.Drawing.{toCome, DrewNext, DrewFrom};
+ghost use Rattle.sampler.specs.Drawing.{toCome, DrewNext, DrewFrom, DrewRow};
 
 // So many values are drawn at most beyond those that are wanted.
 pub const MORE_DRAWS: u64 = 64;
@@ -109,12 +108,17 @@ pub fn draw(stream: Sponge, left: usize, row: &mut [u64]) -> Draws
     draw_by(stream, left, &mut bytes, row)
 }
 
-// The same for a row that will be full: there are enough.
+// The same for a row that is to be full. Where no draw is left before it is, it has zeros.
 pub fn draw_row(stream: Sponge, left: usize, row: &mut [u64]) -> Draws
-    requires { ⌜ (stream .at < 168) × (length (now row) ≤ length (toCome p64 left stream)) ⌝ }
-    ensures { λ r. ⌜ (toCome p64 left stream ≡ now (row .exit) ++ toCome p64 (r .left) (r .stream)) × (r .stream .at < 168) ⌝ }
+    requires { ⌜ stream .at < 168 ⌝ }
+    ensures { λ r. ⌜ DrewRow p64 (toCome p64 left stream) r (now (row .exit)) ⌝ }
 {
-    draw(stream, left, row)
+    let drew = draw(stream, left, row);
+    if drew.count < row.len() {
+        rows::zero_row(row);
+        return drew;
+    }
+    drew
 }
 
 // Whether so many values below p are among those that may still be drawn.

@@ -1,14 +1,20 @@
--- Computed examples: the first values of a helper's stream, and the wraparound seed of both shares' first elements. They are those that oracle/original gives (`cut 1 1 0 1 1 1 1`, gradient 1.0, nonce 00 01 .. 0f, seeds 00 01 .. 4f). Assumes nothing.
+-- Computed examples: the first values of a helper's stream, the measurement's first elements, and the wraparound seed of both shares'. They are those that oracle/original gives (`cut 1 1 0 1 1 1 1`, gradient 1.0, nonce 00 01 .. 0f, seeds 00 01 .. 4f). Assumes nothing.
 use mathlib.Core.Path.{_≡_, refl, ap₂, _∙_}
 use mathlib.Core.List.{List, [], _∷_, _++_}
 use Prim.Native.Nat.{ℕ, zero, suc}
 use Rattle.keccak.specs.Keccak.{roundOf, keccakP}
 use Rattle.turboshake.specs.TurboShake.{turboShake128}
 use Rattle.field64.specs.Field.{p64}
+use Rattle.field64.specs.Sums.{evaluate}
+use Rattle.pine.specs.declared.PineParam.{PineParam}
+use Rattle.pine.specs.Param.{standard}
+use Rattle.pine.specs.Record.{halvings, digits, sqNormBound, sqNormBits}
+use Rattle.flp.specs.Bits.{bits}
+use Rattle.flp.specs.Encode.{sqNorm}
 use Rattle.octets.specs.Octets.{fromBytes, elementsIn}
 use Rattle.sampler.specs.Sampler.{keptOf, valuesOf}
 use Rattle.joint_rand.specs.JointRand.{jointRandPart, jointRandSeed}
-use Rattle.shares.specs.Shares.{wrBlind₀, wrBlind₁, wrJointRand, helperBytes}
+use Rattle.shares.specs.Shares.{wrBlind₀, wrBlind₁, wrJointRand, helperBytes, gradientAndNormLen, withNorm}
 
 abbrev counted : (n : ℕ) → List ℕ
 counted zero = []
@@ -21,6 +27,18 @@ first-bytes = refl
 first-values : valuesOf p64 2 (0xc8 ∷ 0xc9 ∷ 0x10 ∷ 0x8d ∷ 0xb8 ∷ 0x75 ∷ 0xdf ∷ 0x7b ∷ 0x83 ∷ 0x5e ∷ 0xfa ∷ 0xad ∷ 0x07 ∷ 0x53 ∷ 0x44 ∷ 0xb4 ∷ []) ≡ 0x7bdf75b88d10c9c8 ∷ 0xb4445307adfa5e83 ∷ []
 unfolding valuesOf keptOf elementsIn fromBytes
 first-values = refl
+
+-- the measurement's first elements: 1, then v = 1 and u = 0 as a bit each
+abbrev param : PineParam
+param = standard 1 1 0 1 1 1 1
+
+how-many : gradientAndNormLen param ≡ 3
+unfolding sqNormBits sqNormBound digits halvings
+how-many = refl
+
+first-elements : withNorm p64 param (1 ∷ []) ≡ 1 ∷ 1 ∷ 0 ∷ []
+unfolding sqNormBits sqNormBound digits halvings sqNorm evaluate bits
+first-elements = refl
 
 abbrev leader : List ℕ
 leader = 0x84208a4672ef363a ∷ 0x4bbbacf75205a17f ∷ 0xb5997be8bc7704c0 ∷ []

@@ -1,4 +1,3 @@
--- `Taking`: pieces of the shares in the wraparound parts. `Seeds`: the helper's values, and the seeds. `Examples` are computed.
-pub mod Taking
+-- `Seeds`: the five seeds, the helper's values, the seeds given. `Examples` are computed.
 pub mod Seeds
 mod Examples

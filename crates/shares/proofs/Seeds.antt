@@ -1,38 +1,26 @@
--- The helper's values, and the seeds that the parts make. Assumes nothing.
-use mathlib.Core.Path.{_≡_, refl, sym, ap, ap₂, subst, _∙_}
-use mathlib.Core.List.{List, [], _∷_, _++_}
-use Prim.Native.Nat.{ℕ, zero, suc, _+_, _-_, _*_, _≤_, _<_}
+-- The five seeds, the helper's values, and the row of the seeds given. Assumes nothing.
+use mathlib.Core.Path.{_≡_, sym, ap, ap₂, subst, _∙_}
+use mathlib.Core.List.{List, [], _∷_, _++_, append-nil}
+use Prim.Native.Nat.{ℕ, zero, suc, _+_, _-_, _*_, _≤_}
 use native.Mathlib.Omega.{arith}
-use lib.ListN.{length, take, drop, length-append}
+use lib.ListN.{length, take, drop, length-append, length-drop, drop-of-length-le}
 use lib.Seq.{take-at, take-take, length-take-le}
 use lib.Dec.{ltb, lit<}
-use lib.Ieee.{Float}
 use borrow.Author.Tests.{ltb-false}
 use Rattle.rules.specs.Rules.{accepted}
 use Rattle.rules.proofs.Chain.{none, not-so}
-use Rattle.field64.specs.Field.{subMod}
-use Rattle.pine.specs.declared.PineParam.{PineParam}
-use Rattle.pine.specs.Param.{Field}
-use Rattle.pine.specs.Record.{sqNormBound, sqNormBits, bitCheckedLen, encodedInputLen}
-use Rattle.rows.specs.Rows.{Below, subRows}
+use Rattle.rows.specs.Rows.{Below}
 use Rattle.rows.proofs.Elements.{below-take}
-use Rattle.flp.specs.Bits.{bits}
-use Rattle.flp.specs.Encode.{elements, sqNorm}
-use Rattle.flp.proofs.Bits.{length-bits}
-use Rattle.flp.proofs.Gradient.{length-elements}
 use Rattle.turboshake.specs.declared.Sponge.{Sponge}
-use Rattle.turboshake.specs.TurboShake.{Bytes, bytesOf}
-use Rattle.turboshake.specs.Stream.{absorbAll, start, finished, drawn, streamOf}
-use Rattle.xof.specs.Xof.{algorithmId, dst, beforeBinder, xofTurboShake128}
+use Rattle.turboshake.specs.TurboShake.{Bytes}
+use Rattle.turboshake.specs.Stream.{drawn, streamOf}
+use Rattle.xof.specs.Xof.{algorithmId, dst, beforeBinder}
 use Rattle.xof.proofs.Frame.{drawn-is}
+use Rattle.sampler.specs.declared.Draws.{Draws}
 use Rattle.sampler.specs.Sampler.{drawLimit, valuesOf, sampled, drawsRule}
-use Rattle.sampler.specs.Drawing.{toCome}
+use Rattle.sampler.specs.Drawing.{toCome, DrewRow}
 use Rattle.sampler.proofs.Values.{values-below}
-use Rattle.joint_rand.specs.JointRand.{partMessage, jointRandPart, jointRandSeed}
-use Rattle.joint_rand.proofs.Parts.{absorbed-more, part-is}
-use Rattle.shares.specs.declared.Parts.{Parts}
-use Rattle.shares.specs.Shares.{seedAt, wrBlind₀, wrBlind₁, helperStream, gradientAndNormLen, withNorm, gradientAndNorm, helperShare, helperFront, wrSeed}
-use Rattle.shares.specs.Pieces.{helperRest, Begun, TookPiece}
+use Rattle.shares.specs.Shares.{seedAt, helperStream}
 
 -- ---- the five seeds
 
@@ -88,60 +76,20 @@ module _ (p n : ℕ) (bytes : List ℕ) (met : drawsRule p n bytes ≡ accepted)
     pub come-enough : n ≤ length (toCome p (drawLimit n) s)
     come-enough = subst (λ (xs : List ℕ). n ≤ length xs) (sym to-come) (enough p n bytes met)
 
-    pub first-drawn : (row rest : List ℕ) → length row ≡ n → toCome p (drawLimit n) s ≡ row ++ rest → row ≡ sampled p n bytes
+    pub first-drawn : (row : List ℕ) (r : Draws) → length row ≡ n → DrewRow p (toCome p (drawLimit n) s) r row → row ≡ sampled p n bytes
     unfolding sampled
-    first-drawn row rest l e = sym (ap (take n) (sym to-come ∙ e) ∙ take-at row rest n l)
+    first-drawn row r l d = d .values (omega (arith, l, come-enough)) ∙ (λ j. take (l j) (to-come j))
 
     pub front-come : (k : ℕ) → k ≤ n → take k (toCome p (drawLimit n) s) ≡ take k (sampled p n bytes)
     unfolding sampled
     front-come k h = ap (take k) to-come ∙ sym (take-take k n (valuesOf p (drawLimit n) bytes) h)
 
--- ---- the wraparound seed
+-- ---- the seeds given
 
-module _ (F : Field) (i : PineParam) (g : List Float) (nonce seeds : List ℕ) (long : length g ≡ i .dimension) where
-  abbrev n : ℕ
-  n = encodedInputLen i
-
-  abbrev xs : List ℕ
-  xs = elements (F .p) (i .«frac_bits») g
-
-  pub front-long : length (gradientAndNorm F i g) ≡ gradientAndNormLen i
-  unfolding gradientAndNorm
-  front-long = simp (length-append, length-bits, length-elements) (omega (arith, long))
-
-  pub front-within : gradientAndNormLen i ≤ n
-  unfolding encodedInputLen bitCheckedLen
-  front-within = omega arith
-
-  -- the elements of a gradient, then v, then u
-  pub took-front : (a b : Parts) (v u : ℕ) → v ≡ sqNorm (F .p) xs → u ≡ subMod (F .p) (sqNormBound i) v → TookPiece (F .p) a b (xs ++ (bits (sqNormBits i) v ++ bits (sqNormBits i) u)) → TookPiece (F .p) a b (gradientAndNorm F i g)
-  unfolding gradientAndNorm
-  took-front a b v u ev eu t =
-      let w : ℕ → List ℕ = λ k. bits (sqNormBits i) k in
-      let all : xs ++ (w v ++ w u) ≡ withNorm (F .p) i xs = λ j. xs ++ (w (ev j) ++ w ((eu ∙ ap (subMod (F .p) (sqNormBound i)) ev) j)) in
-      subst (TookPiece (F .p) a b) all t
-
-  module _ (begun parts : Parts) (b : Begun nonce seeds (drawLimit n) begun) (is : drawn (8 * drawLimit n) (begun .stream) ≡ helperStream n seeds) (met : drawsRule (F .p) n (helperStream n seeds) ≡ accepted) where
-    -- the helper's values, before the first piece
-    pub rest-enough : n ≤ length (helperRest (F .p) begun)
-    rest-enough = subst (λ (m : ℕ). n ≤ length (toCome (F .p) m (begun .stream))) (sym (b .left)) (come-enough (F .p) n (helperStream n seeds) met (begun .stream) is)
-
-    module _ (t : TookPiece (F .p) begun parts (gradientAndNorm F i g)) where
-      abbrev all : List ℕ
-      all = gradientAndNorm F i g
-
-      helper-is : take (length all) (helperRest (F .p) begun) ≡ helperFront F i seeds
-      unfolding helperShare
-      helper-is =
-          (λ j. take (front-long j) (toCome (F .p) (b .left j) (begun .stream)))
-          ∙ front-come (F .p) n (helperStream n seeds) met (begun .stream) is (gradientAndNormLen i) front-within
-
-      pub wr-seed-is : (l h r : List ℕ) → Bytes nonce → Bytes seeds → l ≡ drawn 16 (finished 1 (parts .leader)) → h ≡ drawn 16 (finished 1 (parts .helper)) → r ≡ jointRandSeed 9 l h → r ≡ wrSeed F i g nonce seeds
-      unfolding wrSeed
-      wr-seed-is l h r fn fs el eh er =
-          let hs = take (length all) (helperRest (F .p) begun) in
-          let leader : l ≡ jointRandPart 10 0 (wrBlind₀ seeds) nonce (subRows (F .p) all hs) =
-          part-is 10 0 (wrBlind₀ seeds) nonce (subRows (F .p) all hs) l (parts .leader) (lit< tt) (seed-bytes 3 seeds fs) fn (absorbed-more 10 0 (wrBlind₀ seeds) nonce [] (subRows (F .p) all hs) (begun .leader) (parts .leader) (b .leader) (t .leader)) el in
-          let helper : h ≡ jointRandPart 10 1 (wrBlind₁ seeds) nonce hs =
-          part-is 10 1 (wrBlind₁ seeds) nonce hs h (parts .helper) (lit< tt) (seed-bytes 1 seeds fs) fn (absorbed-more 10 1 (wrBlind₁ seeds) nonce [] hs (begun .helper) (parts .helper) (b .helper) (t .helper)) eh in
-          er ∙ ap₂ (jointRandSeed 9) leader helper ∙ ap (λ (r : List ℕ). jointRandSeed 9 (jointRandPart 10 0 (wrBlind₀ seeds) nonce (subRows (F .p) all r)) (jointRandPart 10 1 (wrBlind₁ seeds) nonce r)) helper-is
+-- a row of two halves, written one after the other
+pub two-halves : (row xs ys first second : List ℕ) → length row ≡ 32 → length xs ≡ 16 → length ys ≡ 16 → first ≡ xs → second ≡ ys
+    → take 16 (first ++ drop 16 row) ++ (second ++ drop (length (first ++ drop 16 row) - 16) (drop 16 (first ++ drop 16 row))) ≡ xs ++ ys
+two-halves row xs ys first second l lx ly e f =
+    let n : length first ≡ 16 = ap length e ∙ lx in
+    let over : length (drop 16 (first ++ drop 16 row)) ≤ length (first ++ drop 16 row) - 16 = simp (length-drop, length-append) (omega arith) in
+    ap₂ _++_ (take-at first (drop 16 row) 16 n ∙ e) (ap₂ _++_ f (drop-of-length-le (drop 16 (first ++ drop 16 row)) over) ∙ append-nil ys)

@@ -1,15 +1,14 @@
 -- `shares::cut_measurement` meets its contract. Assumes nothing.
 use borrow.Author.Needs.{needs}
-use mathlib.Core.Path.{_≡_, sym, ap, subst, _∙_}
+use mathlib.Core.Path.{_≡_, sym, ap, _∙_}
 use mathlib.Core.List.{List, _++_}
 use Prim.Native.Nat.{ℕ}
 use native.Mathlib.Omega.{arith}
 use lib.ListN.{length}
 use Rattle.field64.specs.Field.{p64}
-use Rattle.rows.specs.Rows.{Below}
 use Rattle.sampler.specs.Sampler.{sampled}
 use Rattle.shares.specs.Shares.{helperStream}
-use Rattle.shares.proofs.Seeds.{come-enough, first-drawn, sampled-below}
+use Rattle.shares.proofs.Seeds.{first-drawn}
 use Rattle.shares.proofs.cut_measurement.Statement.{statement}
 use Rattle.shares.proofs.cut_measurement.Tie as tie
 
@@ -17,7 +16,7 @@ use Rattle.shares.proofs.cut_measurement.Tie as tie
 drawn-is : (c : tie.After-draw-row) → c .draw-row .last .1 .1 .0 ≡ sampled p64 (length (c .before .before .before .before .before .before .before .before .args .helper .now)) (helperStream (length (c .before .before .before .before .before .before .before .before .args .helper .now)) (c .before .before .before .before .before .before .before .before .args .seeds .now))
 drawn-is c =
     let n = length (c .before .before .before .before .before .before .before .before .args .helper .now) in
-    first-drawn p64 n (helperStream n (c .before .before .before .before .before .before .before .before .args .seeds .now)) (c .before .before .before .before .before .before .before .before .pre .1 .1) (c .before .before .helper-stream .result) (c .before .before .helper-stream .ensures .0 n) _ _ (c .draw-row .kept .1 .1 .0) (c .draw-row .ensures .0)
+    first-drawn p64 n (helperStream n (c .before .before .before .before .before .before .before .before .args .seeds .now)) (c .before .before .before .before .before .before .before .before .pre .1 .1) (c .before .before .helper-stream .result) (c .before .before .helper-stream .ensures .0 n) _ _ (c .draw-row .kept .1 .1 .0) (c .draw-row .ensures)
 
 add-most : tie.Need-add-most
 add-most c = search needs
@@ -26,14 +25,13 @@ helper-stream-requires : tie.Need-helper-stream-requires
 helper-stream-requires c κs = search needs
 
 draw-row-requires : tie.Need-draw-row-requires
-draw-row-requires c κs =
-    let n = length (c .before .before .before .before .before .before .before .args .helper .now) in
-    (c .before .helper-stream .ensures .1, come-enough p64 n (helperStream n (c .before .before .before .before .before .before .before .args .seeds .now)) (c .before .before .before .before .before .before .before .pre .1 .1) (c .before .helper-stream .result) (c .before .helper-stream .ensures .0 n))
+draw-row-requires c κs = c .before .helper-stream .ensures .1
 
 sub-rows-requires : tie.Need-sub-rows-requires
 sub-rows-requires c κs =
-    let n = length (c .before .before .before .before .before .before .before .before .before .before .before .before .args .helper .now) in
-    (omega (arith, c .before .before .before .before .draw-row .kept .1 .1 .0, c .before .before .before .before .before .before .before .before .before .before .before .before .pre .1 .0 .1), (c .before .before .before .before .before .before .before .before .before .before .before .before .pre .1 .0 .0, subst (Below p64) (sym (drawn-is (c .before .before .before .before))) (sampled-below p64 n (helperStream n (c .before .before .before .before .before .before .before .before .before .before .before .before .args .seeds .now)) (c .before .before .before .before .before .before .before .before .before .before .before .before .pre .1 .1))))
+    let d = c .before .before .before .before .draw-row in
+    let s = c .before .before .before .before .before .before .before .before .before .before .before .before in
+    (omega (arith, d .kept .1 .1 .0, s .pre .1 .0 .1), (s .pre .1 .0 .0, d .ensures .below))
 
 vf-seed-requires : tie.Need-vf-seed-requires
 vf-seed-requires c κs = search needs

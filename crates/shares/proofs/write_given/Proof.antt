@@ -4,7 +4,7 @@ use mathlib.Core.Path.{_≡_, sym}
 use native.Mathlib.Omega.{arith}
 use lib.ListN.{length}
 use lib.Seq.{length-take-le}
-use Rattle.shares.proofs.Taking.{two-halves}
+use Rattle.shares.proofs.Seeds.{two-halves}
 use Rattle.shares.proofs.write_given.Statement.{statement}
 use Rattle.shares.proofs.write_given.Tie as tie
 
