@@ -1,25 +1,23 @@
 // The commands: what each reads of its line, and what it answers.
-use crate::aggregates;
-use crate::aggregates::Call;
-use crate::circuits;
 use crate::cuts;
-use crate::files;
-use crate::inputs::read_later;
-use crate::inputs::read_param;
 use crate::loads;
-use crate::reports;
-use crate::vectors;
-use crate::vectors::Which;
 use answers::answer_hex;
 use answers::bad;
 use answers::print;
 use answers::refused;
+use case_inputs::read_later;
+use case_inputs::read_param;
 use lines::patterns::double_of;
 use lines::patterns::pattern_of;
 use lines::words;
 use lines::words::Cursor;
 use pine::record::Lengths;
 use pine::record::Pine;
+use server_cases::aggregates;
+use server_cases::aggregates::Call;
+use server_cases::circuits;
+use server_cases::vectors;
+use server_cases::vectors::Which;
 
 fn put_bounds(out: &mut [u8], at: usize, pine: Pine) -> usize {
     let to = print::hex(out, at, b" sq_norm_bound ", pine.sq_norm_bound, 1);
@@ -143,16 +141,16 @@ fn of_cuts(name: &[u8], line: &[u8], c: Cursor, out: &mut [u8], at: usize) -> us
 // The commands on a report, and those above.
 fn of_reports(name: &[u8], line: &[u8], c: Cursor, out: &mut [u8], at: usize) -> usize {
     if check::same(name, b"encode") {
-        return reports::encode(line, c, out, at, false);
+        return report_cases::encode(line, c, out, at, false);
     }
     if check::same(name, b"wrtests") {
-        return reports::wrtests(line, c, out, at, false);
+        return report_cases::wrtests(line, c, out, at, false);
     }
     if check::same(name, b"encodeseed") {
-        return reports::encode(line, c, out, at, true);
+        return report_cases::encode(line, c, out, at, true);
     }
     if check::same(name, b"wrtestsseed") {
-        return reports::wrtests(line, c, out, at, true);
+        return report_cases::wrtests(line, c, out, at, true);
     }
     of_cuts(name, line, c, out, at)
 }
@@ -188,19 +186,19 @@ fn of_aggregates(name: &[u8], line: &[u8], c: Cursor, out: &mut [u8], at: usize)
 // The commands on a day's file, and those above.
 fn of_files(name: &[u8], line: &[u8], c: Cursor, out: &mut [u8], at: usize) -> usize {
     if check::same(name, b"fileread") {
-        return files::read(line, c, out, at);
+        return file_cases::read(line, c, out, at);
     }
     if check::same(name, b"filewrite") {
-        return files::write(line, c, out, at);
+        return file_cases::write(line, c, out, at);
     }
     if check::same(name, b"filemax") {
-        return files::max(line, c, out, at);
+        return file_cases::max(line, c, out, at);
     }
     if check::same(name, b"fileadd") {
-        return files::add(line, c, out, at);
+        return file_cases::add(line, c, out, at);
     }
     if check::same(name, b"filesize") {
-        return files::size(line, c, out, at);
+        return file_cases::size(line, c, out, at);
     }
     of_aggregates(name, line, c, out, at)
 }

@@ -1,13 +1,13 @@
 // The commands that cut a report in two, and that sample a share alone.
-use crate::bytes;
-use crate::inputs::lens_of;
-use crate::inputs::lent_row;
-use crate::inputs::lent_three;
-use crate::inputs::read_param;
 use answers::bad;
 use answers::ok_elements;
 use answers::print;
 use answers::refused_lent;
+use case_inputs::bytes;
+use case_inputs::lens_of;
+use case_inputs::lent_row;
+use case_inputs::lent_three;
+use case_inputs::read_param;
 use lines::row;
 use lines::words;
 use lines::words::Cursor;
@@ -26,6 +26,16 @@ fn ok_cut(out: &mut [u8], at: usize, leader: &[u64], helper: &[u64], given: &[u8
     print::text(out, to, b"\n")
 }
 
+fn fill(leader: &mut [u64], helper: &mut [u64], given: &mut [u8]) {
+    row::fill(leader);
+    row::fill(helper);
+    bytes::fill(given);
+}
+
+fn are_filled(leader: &[u64], helper: &[u64], given: &[u8]) -> bool {
+    row::is_filled(leader) & row::is_filled(helper) & bytes::is_filled(given)
+}
+
 fn answer_cut(
     param: PineParam,
     out: &mut [u8],
@@ -37,15 +47,12 @@ fn answer_cut(
     helper: &mut [u64],
     given: &mut [u8],
 ) -> usize {
-    row::fill(leader);
-    row::fill(helper);
-    bytes::fill(given);
+    fill(leader, helper, given);
     let answer = cut::cut(param, gradient, nonce, seeds, leader, helper, given);
     if answer.number == 0 {
         ok_cut(out, at, leader, helper, given)
     } else {
-        let kept = row::is_filled(leader) & row::is_filled(helper) & bytes::is_filled(given);
-        refused_lent(out, at, answer, kept)
+        refused_lent(out, at, answer, are_filled(leader, helper, given))
     }
 }
 

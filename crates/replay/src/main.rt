@@ -3,16 +3,9 @@
 use answers::print;
 use libc::STDIN_FILENO;
 
-mod aggregates;
-mod bytes;
 mod cases;
-mod circuits;
 mod cuts;
-mod files;
-mod inputs;
 mod loads;
-mod reports;
-mod vectors;
 
 ghost use mathlib.Core.Path.{_≡_};
 ghost use Prim.Native.Nat.{_≤_};
