@@ -1,7 +1,7 @@
 // Internal: wiping the stack that calls have used.
 ghost use mathlib.Core.Path.{_≡_};
 
-// Writes zeros over the stack below its caller's frame, by rows of 256 words: 2064 bytes each, with what a call itself
+// Writes zeros over the stack below its caller's frame, by rows of 128 words: 1040 bytes each, with what a call itself
 // takes. What it gives says nothing, and is read from its rows so that LLVM keeps them: it cannot tell that a recursion
 // ends, nor which word is read.
 pub fn wipe(rows: usize) -> usize
@@ -10,7 +10,7 @@ pub fn wipe(rows: usize) -> usize
     if rows == 0 {
         return 0;
     }
-    let row = [0usize; 256];
+    let row = [0usize; 128];
     let below = wipe(rows - 1);
-    row[below % 256]
+    row[below % 128]
 }

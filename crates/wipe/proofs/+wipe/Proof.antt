@@ -18,8 +18,8 @@ fewer : (n : ℕ) → ((n ≡ 0) → ⊥) → n - 1 < n
 fewer zero f = absurd (f refl)
 fewer (suc k) f = subst (λ (j : ℕ). j < suc k) (sym (sub-one (suc k))) (lt-suc-self k)
 
-in-row : (n : ℕ) → n % 256 < 256
-in-row n = mod-lt n (zero-lt-suc 255)
+in-row : (n : ℕ) → n % 128 < 128
+in-row n = mod-lt n (zero-lt-suc 127)
 
 abbrev μ-wipe : Measures 0 wipe-kinds.ps ℕ
 μ-wipe κs a = a .0
@@ -49,7 +49,7 @@ wipe-array-read-result :
 wipe-array-read-result t c = in-row (c .wipe .result)
 
 wipe-returns-2 : (t : ℕ) → wipe-lts.Need-returns-2 (wipe-below t, wipe.Post) (wipe-at t) wipe.Post
-wipe-returns-2 t c = getD-replicate 256 (c .wipe .result % 256) 0 0 (in-row (c .wipe .result))
+wipe-returns-2 t c = getD-replicate 128 (c .wipe .result % 128) 0 0 (in-row (c .wipe .result))
 
 pub +wipe-spec : {M : Type 1} → statement M
 +wipe-spec =
