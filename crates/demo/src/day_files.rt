@@ -1,5 +1,6 @@
 // A server's file of the day: its aggregates by the controller's whole address and the valve, so that two
 // controllers whose valves have the same numbers stay apart.
+use crate::day;
 use crate::filing::KEYS;
 use crate::filing::VALVES;
 use crate::print;
@@ -9,10 +10,13 @@ use day_file::FileLen;
 use rules::Answer;
 ghost use Prim.Native.Nat.{_<_};
 
-// An entry has 12 bytes of contents, and four elements.
+// An entry has 12 bytes of contents, and three elements.
 const CONTENTS: usize = 12;
 
-const ENTRY: usize = 44;
+const ENTRY: usize = 36;
+
+// The bytes of a file with no entries.
+const BEGUN: usize = 6;
 
 // A controller's address, and the number of a valve, low byte first.
 fn key_bytes(key: usize) -> [u8; 8]
@@ -28,24 +32,16 @@ fn refused(answer: Answer) -> FileLen {
     FileLen { answer, len: 0 }
 }
 
-// A file is begun with no entries: six bytes.
+// A file is begun with no entries.
 fn begin(file: &mut [u8]) -> Answer {
-    if file.len() < 6 {
+    if file.len() < BEGUN {
         return short();
     }
     let none = [0u64; 0];
-    day_file::file_write(param(), 0, b"", &none, &mut file[0..6])
+    day_file::file_write(param(), 0, b"", &none, &mut file[0..BEGUN])
 }
 
-// The length of both files, 0 where one was refused.
-pub fn begin_both(left: &mut [u8], right: &mut [u8]) -> usize {
-    let in_left = begin(left);
-    let in_right = begin(right);
-    let begun = in_left.or(in_right);
-    if begun.number == 0 { 6 } else { 0 }
-}
-
-// 5. A server adds the gradient part of its full share to its file, of len bytes, by the key. The new file is in
+// 4. A server adds the gradient part of its full share to its file, of len bytes, by the key. The new file is in
 // the second row, which has room for an entry more.
 pub fn add(key: usize, file: &[u8], len: usize, share: &[u64], second: &mut [u8]) -> FileLen
     requires { ⌜ key < 24 ⌝ }
@@ -75,7 +71,29 @@ pub fn add(key: usize, file: &[u8], len: usize, share: &[u64], second: &mut [u8]
     )
 }
 
-// 6. At the day's end a file is read: the contents of its entries, and their bodies, in the keys' order.
+// A server files the shares of a day, alone. The controllers report in turn: the file goes from the first row to
+// the second with a report of controller 1, and back with one of controller 2. Its length, 0 once one was refused.
+pub fn add_all(shares: &[u64], file: &mut [u8], second: &mut [u8]) -> usize {
+    let begun = begin(file);
+    let mut len = if begun.number == 0 { BEGUN } else { 0 };
+    let mut valve = 0;
+    while valve < VALVES {
+        let there = add(valve, file, len, day::full_share(shares, valve), second);
+        let key = VALVES + valve;
+        let back = add(
+            key,
+            second,
+            there.len as usize,
+            day::full_share(shares, key),
+            file,
+        );
+        len = back.len as usize;
+        valve += 1;
+    }
+    len
+}
+
+// 5. At the day's end a file is read: the contents of its entries, and their bodies, in the keys' order.
 pub fn read(file: &[u8], len: usize, contents: &mut [u8], bodies: &mut [u64]) -> Answer {
     if file.len() < len {
         return short();

@@ -1,5 +1,6 @@
 // The aggregates of a server without a file, one for each key. A key is a controller and a valve:
 // controller * 12 + valve, both counted from 0. A server's aggregates stand in one row.
+use crate::day;
 use crate::made_up;
 use crate::report::DIMENSION;
 use crate::report::param;
@@ -14,7 +15,7 @@ pub const VALVES: usize = 12;
 pub const KEYS: usize = 24;
 
 // The aggregate of no shares.
-pub fn empty(aggregates: &mut [u64], key: usize) -> Answer
+fn empty(aggregates: &mut [u64], key: usize) -> Answer
     requires { ⌜ key < 24 ⌝ }
 {
     let start = key * DIMENSION;
@@ -25,7 +26,7 @@ pub fn empty(aggregates: &mut [u64], key: usize) -> Answer
     vdaf::empty_aggregate(param(), &mut aggregates[start..end])
 }
 
-// 7. Or a server keeps its aggregates itself: it adds the gradient part of its full share to that of its key.
+// 6. Or a server keeps its aggregates itself: it adds the gradient part of its full share to that of its key.
 pub fn file(param: PineParam, aggregates: &mut [u64], key: usize, share: &[u64]) -> Answer
     requires { ⌜ key < 24 ⌝ }
 {
@@ -43,30 +44,53 @@ pub fn file(param: PineParam, aggregates: &mut [u64], key: usize, share: &[u64])
     vdaf::accumulate(param, &mut aggregates[start..end], gradient)
 }
 
-// 8. The two servers' aggregates of a key together give the sum of its gradients.
-pub fn read(left: &[u64], right: &[u64], key: usize, decoded: &mut [f64]) -> Answer
+// A server's aggregates of a day, from its shares.
+pub fn file_all(shares: &[u64], aggregates: &mut [u64]) -> Answer {
+    let mut answer = Answer::accepted();
+    let mut key = 0;
+    while key < KEYS {
+        answer = answer.or(empty(aggregates, key));
+        answer = answer.or(file(param(), aggregates, key, day::full_share(shares, key)));
+        key += 1;
+    }
+    answer
+}
+
+// 7. The two servers' aggregates of a key together give the sum of its gradients.
+pub fn read(leader: &[u64], helper: &[u64], key: usize, decoded: &mut [f64]) -> Answer
     requires { ⌜ key < 24 ⌝ }
 {
     let start = key * DIMENSION;
     let end = start + DIMENSION;
-    if left.len() < end {
+    if leader.len() < end {
         return short();
     }
-    if right.len() < end {
+    if helper.len() < end {
         return short();
     }
-    vdaf::unshard(param(), &left[start..end], &right[start..end], decoded)
+    vdaf::unshard(param(), &leader[start..end], &helper[start..end], decoded)
 }
 
 // Whether what was decoded for a key is the true sum: that of its one gradient.
-pub fn is_true(left: &[u64], right: &[u64], key: usize) -> bool
+pub fn is_true(leader: &[u64], helper: &[u64], key: usize) -> bool
     requires { ⌜ key < 24 ⌝ }
 {
-    let mut decoded = [0.0f64; 4];
-    let mut gradient = [0.0f64; 4];
+    let mut decoded = [0.0f64; 3];
+    let mut gradient = [0.0f64; 3];
     made_up::gradient(key, &mut gradient);
-    let answer = read(left, right, key, &mut decoded);
+    let answer = read(leader, helper, key, &mut decoded);
     answer.number == 0 && row::same_doubles(&decoded, &gradient)
+}
+
+// How many keys' decoded rows are.
+pub fn true_keys(leader: &[u64], helper: &[u64]) -> u64 {
+    let mut n = 0;
+    let mut key = 0;
+    while key < KEYS {
+        n = day::more(n, is_true(leader, helper, key));
+        key += 1;
+    }
+    n
 }
 
 // Adds the aggregate of a key to that of its controller.
@@ -81,7 +105,7 @@ fn merge_key(total: &mut [u64], aggregates: &[u64], key: usize) -> Answer
     vdaf::merge(param(), total, &aggregates[start..end])
 }
 
-// 9. A server merges aggregates: here those of a controller's valves, from the first key on.
+// 8. A server merges aggregates: here those of a controller's valves, from the first key on.
 pub fn merge_valves(total: &mut [u64], aggregates: &[u64], first: usize) -> Answer
     requires { ⌜ first ≤ 12 ⌝ }
 {
@@ -94,7 +118,7 @@ pub fn merge_valves(total: &mut [u64], aggregates: &[u64], first: usize) -> Answ
     answer
 }
 
-// 10. A grower withdraws: a server takes the gradient part of the share out of the aggregate of its key.
+// 9. A grower withdraws: a server takes the gradient part of the share out of the aggregate of its key.
 pub fn withdraw(aggregates: &mut [u64], key: usize, share: &[u64]) -> Answer
     requires { ⌜ key < 24 ⌝ }
 {
@@ -126,7 +150,7 @@ fn add_gradient(sum: &mut [f64], key: usize, withdrawn: usize) {
     if key == withdrawn {
         return;
     }
-    let mut gradient = [0.0f64; 4];
+    let mut gradient = [0.0f64; 3];
     made_up::gradient(key, &mut gradient);
     row::add_doubles(sum, &gradient);
 }

@@ -1,6 +1,6 @@
 // A day on the farm, a tutorial of the calls that take a report from its gradient to the sums: two controllers
 // with twelve valves each, a report of each valve, two servers. report.rt, day_files.rt, filing.rt, trial.rt and
-// probe.rt have the steps, numbered 1 to 13.
+// probe.rt have the steps, numbered 1 to 12.
 mod day;
 mod day_files;
 mod filing;
@@ -26,123 +26,121 @@ fn lengths_are_derived() -> bool {
         && derived.flp.joint_rand_len == 3
 }
 
-// What the two servers' files hold: their contents, and their bodies.
-fn show_files(len: usize, contents: &[u8], right_contents: &[u8], left: &[u64], right: &[u64]) {
+// Whether all reports are valid: a server files no other.
+fn first_day(leaders: &mut [u64], helpers: &mut [u64], given: &mut [u8]) -> bool {
+    print::text(b"day 1: each report made with one call, in fresh rows\n");
+    let valid = day::first(leaders, helpers, given);
     print::counted(
-        day_files::all_reports(contents),
-        b" of 24 reports encoded, cut, tested by both servers, valid and filed\n",
+        valid,
+        b" of 24 reports cut, tested by both servers, and valid\n",
     );
-    print::text(b"the two servers' files, by address and valve: ");
-    print::counted(day_files::all_reports(contents), b" and ");
-    print::counted(day_files::all_reports(right_contents), b" reports, ");
-    print::counted(len as u64, b" bytes each, at most ");
-    print::counted(day_file::file_max(report::param(), 24).len, b"\n");
-    table::bodies(contents, left, right, 12);
-    table::print(contents, left, right);
-    sums(left, right);
+    valid == filing::KEYS as u64
 }
 
-fn read_files(
-    left: &[u8],
-    right: &[u8],
-    len: usize,
-    left_contents: &mut [u8],
-    right_contents: &mut [u8],
-    left_bodies: &mut [u64],
-    right_bodies: &mut [u64],
-) {
-    let of_left = day_files::read(left, len, left_contents, left_bodies);
-    let of_right = day_files::read(right, len, right_contents, right_bodies);
-    let answer = of_left.or(of_right);
+// What the two servers' files hold: their contents, and their bodies.
+fn show_files(contents: &[u8], helper_contents: &[u8], leader: &[u64], helper: &[u64]) {
+    print::text(b"the two servers' files, by address and valve: ");
+    print::counted(day_files::all_reports(contents), b" and ");
+    print::counted(day_files::all_reports(helper_contents), b" reports\n");
+    table::bodies(contents, leader, helper, 12);
+    table::print(contents, leader, helper);
+    sums(leader, helper);
+}
+
+fn show_lengths(leader_len: usize, helper_len: usize) {
+    print::text(b"each server files its shares alone: ");
+    print::counted(leader_len as u64, b" and ");
+    print::counted(helper_len as u64, b" bytes, at most ");
+    print::counted(day_file::file_max(report::param(), 24).len, b"\n");
+}
+
+fn files(leader: &[u8], leader_len: usize, helper: &[u8], helper_len: usize) {
+    let mut contents = [0u8; 288];
+    let mut helper_contents = [0u8; 288];
+    let mut leader_bodies = [0u64; 72];
+    let mut helper_bodies = [0u64; 72];
+    let of_leader = day_files::read(leader, leader_len, &mut contents, &mut leader_bodies);
+    let of_helper = day_files::read(helper, helper_len, &mut helper_contents, &mut helper_bodies);
+    let answer = of_leader.or(of_helper);
     if answer.number != 0 {
         print::text(b"a file was refused by ");
         print::answer(answer);
         print::text(b"\n");
         return;
     }
-    show_files(
-        len,
-        left_contents,
-        right_contents,
-        left_bodies,
-        right_bodies,
-    );
-}
-
-fn files(left: &[u8], right: &[u8], len: usize) {
-    let mut left_contents = [0u8; 288];
-    let mut right_contents = [0u8; 288];
-    let mut left_bodies = [0u64; 96];
-    let mut right_bodies = [0u64; 96];
-    read_files(
-        left,
-        right,
-        len,
-        &mut left_contents,
-        &mut right_contents,
-        &mut left_bodies,
-        &mut right_bodies,
-    );
-}
-
-fn first_day_in(
-    left: &mut [u8],
-    right: &mut [u8],
-    left_second: &mut [u8],
-    right_second: &mut [u8],
-) {
-    print::text(b"day 1: fresh rows and a seed for each report\n");
-    let len = day::first(left, right, left_second, right_second);
-    files(left, right, len);
-    print::text(b"a damaged report of controller 1, valve 3: refused by ");
-    print::answer(day::damaged(2, left, len, left_second));
-    print::text(b"\n");
+    show_files(&contents, &helper_contents, &leader_bodies, &helper_bodies);
 }
 
 // Each server has two rows, with room for the file of 25 keys.
-fn first_day() {
-    let mut left = [0u8; 1106];
-    let mut right = [0u8; 1106];
-    let mut left_second = [0u8; 1106];
-    let mut right_second = [0u8; 1106];
-    first_day_in(&mut left, &mut right, &mut left_second, &mut right_second);
+fn filed(leaders: &[u64], helpers: &[u64], given: &[u8]) {
+    let mut leader = [0u8; 906];
+    let mut helper = [0u8; 906];
+    let mut second = [0u8; 906];
+    let leader_len = day_files::add_all(leaders, &mut leader, &mut second);
+    let helper_len = day_files::add_all(helpers, &mut helper, &mut second);
+    show_lengths(leader_len, helper_len);
+    files(&leader, leader_len, &helper, helper_len);
+    print::text(b"a damaged report of controller 1, valve 3: refused by ");
+    print::answer(day::damaged(2, leaders, given, &leader, leader_len, &mut second));
+    print::text(b"\n");
 }
 
-fn second_day(left: &mut [u64], right: &mut [u64]) {
-    print::text(
-        b"day 2: the same gradients, the streams lent, in rows left from the last caller\n",
-    );
-    let counts = day::second(left, right);
-    print::counted(counts.filed, b" of 24 reports filed\n");
+fn second_day(leaders: &[u64], helpers: &[u64], given: &[u8]) {
+    print::text(b"day 2: controller 1, valves 1 to ");
     print::counted(
-        counts.equal,
-        b" of 24 reports equal, element by element, those made in fresh rows\n",
+        day::AGAIN as u64,
+        b": the same reports, in rows left from the last caller\n",
+    );
+    print::counted(day::second(leaders, helpers, given), b" of ");
+    print::counted(
+        day::AGAIN as u64,
+        b" reports equal, element by element, those made in fresh rows\n",
     );
 }
 
-fn withdrawal(left: &mut [u64], right: &mut [u64]) {
-    print::text(b"controller 1, valve 9 withdraws after the sums have begun\n");
-    table::without(left, right, 8);
-    day::withdrawn(left, right, 8);
-    table::nothing_left(left, right, 8);
+fn sums(leader: &[u64], helper: &[u64]) {
+    print::counted(
+        filing::true_keys(leader, helper),
+        b" of 24 keys: the decoded row equals the true sums in all 3 coordinates\n",
+    );
 }
 
-fn trial_block(left: &mut [u64], right: &mut [u64]) {
+fn withdrawal(leaders: &[u64], helpers: &[u64], leader: &mut [u64], helper: &mut [u64]) {
+    print::text(b"controller 1, valve 10 withdraws after the sums have begun\n");
+    table::without(leader, helper, 9);
+    filing::withdraw(leader, 9, day::full_share(leaders, 9));
+    filing::withdraw(helper, 9, day::full_share(helpers, 9));
+    table::nothing_left(leader, helper, 9);
+}
+
+fn trial_block(leader: &mut [u64], helper: &mut [u64]) {
     let pine = params::derive(trial::param(WrTestRule::Every)).pine;
-    print::text(b"a trial block with the multiplier 1/2: the tests' bound is ");
-    print::counted(pine.wr_test_bound(), b", not 4096, and a measurement has ");
+    print::text(b"a trial block with the multiplier 1/3: the tests' bound is ");
+    print::counted(pine.wr_test_bound(), b", not 64, and a measurement has ");
     print::counted(pine.encoded_input_len, b" elements\n");
-    print::text(b"controller 1, valve 10: ");
-    trial::print(9);
-    print::text(b"; valve 9: ");
+    print::text(b"controller 1, valve 9: ");
     trial::print(8);
-    print::text(b"\nwhere 2 of the 3 tests are enough, valve 9: ");
-    if trial::file(8, left, right) {
-        print::text(b"encoded, cut, tested by both servers, valid and filed\n");
+    print::text(b"; valve 10: ");
+    trial::print(9);
+    print::text(b"\nwhere 1 of the 2 tests is enough, valve 10: ");
+    if trial::file(9, leader, helper) {
+        print::text(b"cut, tested by both servers, valid and filed\n");
     } else {
         print::text(b"not filed\n");
     }
-    table::filed_again(left, right, 8);
+    table::filed_again(leader, helper, 9);
+}
+
+// The servers that keep their aggregates themselves.
+fn aggregates(leaders: &[u64], helpers: &[u64]) {
+    let mut leader = [0u64; 72];
+    let mut helper = [0u64; 72];
+    print::text(b"two servers that keep their aggregates without a file\n");
+    filing::file_all(leaders, &mut leader);
+    filing::file_all(helpers, &mut helper);
+    sums(&leader, &helper);
+    withdrawal(leaders, helpers, &mut leader, &mut helper);
+    trial_block(&mut leader, &mut helper);
 }
 
 fn broken_probe() {
@@ -153,25 +151,20 @@ fn broken_probe() {
     print::text(b"\n");
 }
 
-fn sums(left: &[u64], right: &[u64]) {
-    print::counted(
-        day::true_keys(left, right),
-        b" of 24 keys: the decoded row equals the true sums in all 4 coordinates\n",
-    );
-}
-
 fn main() {
     if !lengths_are_derived() {
         print::text(b"the parameters derive other lengths than these rows have\n");
         return;
     }
-    print::text(b"d 4, f 6, n 400, T 3, K 3: a measurement has 82 elements, a full share 85\n");
-    let mut left = [0u64; 96];
-    let mut right = [0u64; 96];
-    first_day();
-    second_day(&mut left, &mut right);
-    sums(&left, &right);
-    withdrawal(&mut left, &mut right);
-    trial_block(&mut left, &mut right);
+    print::text(b"d 3, f 2, n 7, T 2, K 2: a measurement has 31 elements, a full share 33\n");
+    let mut leaders = [0u64; 792];
+    let mut helpers = [0u64; 792];
+    let mut given = [0u8; 768];
+    if !first_day(&mut leaders, &mut helpers, &mut given) {
+        return;
+    }
+    filed(&leaders, &helpers, &given);
+    second_day(&leaders, &helpers, &given);
+    aggregates(&leaders, &helpers);
     broken_probe();
 }

@@ -19,9 +19,10 @@ pub fn answer(answer: Answer) {
     counted(answer.place, b"");
 }
 
-pub fn encoded(given: Answer) {
+// What became of a call.
+pub fn outcome(given: Answer, accepted: &[u8]) {
     if given.number == 0 {
-        text(b"encoded");
+        text(accepted);
     } else {
         text(b"refused by ");
         answer(given);
@@ -56,35 +57,27 @@ pub fn two_places(n: u64) {
     counted(n, b"");
 }
 
-fn digit(n: u64) {
-    counted(n % 10, b"");
-}
-
-// A number of 64ths, with all its decimals.
-fn sixty_fourths(n: u64) {
-    counted(n / 64, b".");
-    let millionths = (n % 64) * 15625;
-    digit(millionths / 100000);
-    digit(millionths / 10000);
-    digit(millionths / 1000);
-    digit(millionths / 100);
-    digit(millionths / 10);
-    digit(millionths);
+// A number of quarters, with both its decimals.
+fn quarters(n: u64) {
+    let hundredths = (n % 4) * 25;
+    counted(n / 4, b".");
+    counted(hundredths / 10, b"");
+    counted(hundredths % 10, b"");
 }
 
 // In columns: a space before a number below 10.
 fn signed(sign: &[u8], n: u64) {
-    if n < 640 {
+    if n < 40 {
         text(b" ");
     }
     text(sign);
-    sixty_fourths(n);
+    quarters(n);
 }
 
-// A multiple of 1/64, which as an element with 6 fractional bits is a number of 64ths. The upper
-// half of the elements are the negative numbers.
+// A multiple of 1/4, which as an element with 2 fractional bits is a number of quarters. The upper half of the
+// elements are the negative numbers.
 pub fn double(x: f64) {
-    let n = doubles::f64_to_field(x, 6).element;
+    let n = doubles::f64_to_field(x, 2).element;
     if n <= field64::P / 2 {
         signed(b" ", n);
     } else {

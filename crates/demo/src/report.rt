@@ -1,4 +1,4 @@
-// A report, from the client's gradient to the two servers' shares. The rows are lent, that is the caller's:
+// A report, from the client's gradient to the two servers' full shares. The rows are lent, that is the caller's:
 // what they held before does not matter.
 use crate::made_up;
 use crate::row;
@@ -7,18 +7,24 @@ use pine::WrTestRule;
 use rules::Answer;
 
 // The lengths that these parameters derive; main tests them.
-pub const DIMENSION: usize = 4;
+pub const DIMENSION: usize = 3;
 
-pub const ENCODED_LEN: usize = 82;
+pub const ENCODED_LEN: usize = 31;
 
-pub const TESTS: usize = 3;
+pub const TESTS: usize = 2;
 
-pub const INPUT_LEN: usize = 85;
+pub const INPUT_LEN: usize = 33;
 
-// Four coordinates with 6 fractional bits. norm_bound is that of a gradient times 2^6. Of the three
-// wraparound tests all must succeed. The multiplier of their bound is the standard one, 8.7.
+// The bytes of a seed, and of the two that are given.
+const SEED_LEN: usize = 16;
+
+pub const GIVEN_LEN: usize = 32;
+
+// Three coordinates with 2 fractional bits. norm_bound is that of a gradient times 2^2. Of the two wraparound
+// tests both must succeed. The multiplier of their bound is the standard one, 8.7. A real report has more of
+// everything: these are small, so that the day can be run step by step.
 pub fn param() -> PineParam {
-    PineParam::standard(400, 4, 6, 8, 2, 3, 3)
+    PineParam::standard(7, 3, 2, 4, 2, 2, 2)
 }
 
 // The same but for how many tests must succeed, the multiplier, the rule of the tests and the switch for
@@ -54,143 +60,135 @@ pub fn short() -> Answer {
     }
 }
 
-// 1. The client encodes its gradient: the measurement is the gradient as field numbers, and the bits
-// that show its norm and its tests to be in range. The random bytes of its tests come of a seed of 16
-// bytes, or are lent as they are: the stream. Both servers know it.
-pub fn encode(
+// 1. The client makes its report with one call: the gradient is encoded, as field numbers and the bits that show
+// its norm and its tests to be in range, and that measurement is cut in two, a share for the leader and one for
+// the helper. Both servers are given two seeds more.
+pub fn cut(
     param: PineParam,
     key: usize,
-    seeded: bool,
-    measurement: &mut [u64],
-    results: &mut [u64],
+    leader: &mut [u64],
+    helper: &mut [u64],
+    given: &mut [u8],
 ) -> Answer {
-    let mut gradient = [0.0f64; 4];
+    let mut gradient = [0.0f64; 3];
+    let mut nonce = [0u8; 16];
+    let mut seeds = [0u8; 80];
     made_up::gradient(key, &mut gradient);
-    if seeded {
-        let mut seed = [0u8; 16];
-        made_up::seed(key, &mut seed);
-        return encode::encode_with_wr_joint_rand_seed(
-            param,
-            &gradient,
-            &seed,
-            measurement,
-            results,
-        );
+    made_up::nonce(key, &mut nonce);
+    made_up::seeds(key, &mut seeds);
+    cut::cut(param, &gradient, &nonce, &seeds, leader, helper, given)
+}
+
+// 2. A server runs the wraparound tests alone on the first d elements of its share, with the first seed given,
+// and puts the results behind it: that is its full share.
+pub fn test(param: PineParam, given: &[u8], share: &mut [u64]) -> Answer {
+    if given.len() < SEED_LEN {
+        return short();
     }
-    let mut stream = [0u8; 3];
-    made_up::stream(key, &mut stream);
-    encode::encode_with_wr_joint_rand(param, &gradient, &stream, measurement, results)
-}
-
-// 2. The client cuts the measurement in two: the left share is random, the right one what is left. Each
-// begins a row with room for a full share.
-pub fn cut(key: usize, measurement: &[u64], left: &mut [u64], right: &mut [u64]) {
-    made_up::elements(made_up::begin(key, made_up::CUT), left);
-    row::subtract(measurement, left, right);
-}
-
-// The tests alone, with the report's seed or stream.
-fn run_tests(
-    param: PineParam,
-    key: usize,
-    seeded: bool,
-    gradient: &[u64],
-    results: &mut [u64],
-) -> Answer {
-    if seeded {
-        let mut seed = [0u8; 16];
-        made_up::seed(key, &mut seed);
-        return wr_tests::run_wr_tests_seed(param, gradient, &seed, results);
-    }
-    let mut stream = [0u8; 3];
-    made_up::stream(key, &mut stream);
-    wr_tests::run_wr_tests(param, gradient, &stream, results)
-}
-
-// 3. A server runs the wraparound tests alone on the first d elements of its share, and puts the results
-// behind it: that is its full share.
-pub fn test(param: PineParam, key: usize, seeded: bool, share: &mut [u64]) -> Answer {
     if share.len() < DIMENSION + TESTS {
         return short();
     }
     let encoded_len = share.len() - TESTS;
-    let mut results = [0u64; 3];
-    let answer = run_tests(param, key, seeded, &share[0..DIMENSION], &mut results);
+    let mut results = [0u64; 2];
+    let answer = wr_tests::run_wr_tests_seed(
+        param,
+        &share[0..DIMENSION],
+        &given[0..SEED_LEN],
+        &mut results,
+    );
     if answer.number == 0 {
         row::copy(&results, &mut share[encoded_len..]);
     }
     answer
 }
 
-// 4. Both circuits are 0 on the sum of the two full shares. (Servers that must not see that sum show
+// 3. Both circuits are 0 on the sum of the two full shares. (Servers that must not see that sum show
 // the same by the FLP's proof.)
-pub fn is_valid(param: PineParam, key: usize, full: &[u64]) -> bool {
+fn circuits_are_zero(param: PineParam, key: usize, full: &[u64]) -> bool {
     let mut joint_rand = [0u64; 3];
-    made_up::elements(made_up::begin(key, made_up::JOINT_RAND), &mut joint_rand);
+    made_up::joint_rand(key, &mut joint_rand);
     let main = validity::valid(param, 1, full, &joint_rand);
     let equal = validity::valid_sq_norm_equal(param, 1, full);
-    let main_answer = main.answer.or(equal.answer);
-    main_answer.number == 0 && main.value == 0 && equal.value == 0
+    let answer = main.answer.or(equal.answer);
+    answer.number == 0 && main.value == 0 && equal.value == 0
 }
 
-// What the parts of the sum hold: the checked elements are bits, the results those of the client's own
-// tests. A call that hands back a part puts number and place in two lent numbers.
-pub fn has_parts(param: PineParam, full: &[u64], results: &[u64]) -> bool {
+// What the parts of the sum hold: the checked elements are bits, and as many results as must be are in range.
+// A call that hands back a part puts number and place in two lent numbers.
+fn has_parts(param: PineParam, full: &[u64]) -> bool {
     let mut number = 0;
     let mut place = 0;
     let checked = parts::checked_part(param, full, &mut number, &mut place);
-    let added = parts::results_part(param, full, &mut number, &mut place);
-    number == 0 && row::are_bits(checked) && row::same(added, results)
+    let results = parts::results_part(param, full, &mut number, &mut place);
+    let pine = params::derive(param).pine;
+    number == 0
+        && row::are_bits(checked)
+        && pine.num_wr_successes <= row::in_range(results, pine.wr_test_bound())
 }
 
-// What the client does: steps 1 and 2. Where encoding is refused there is no measurement, and nothing is cut.
-pub fn client(
+// Whether the report of two full shares is valid, with a row for their sum.
+fn is_valid_in(
     param: PineParam,
     key: usize,
-    seeded: bool,
-    measurement: &mut [u64],
-    results: &mut [u64],
-    left: &mut [u64],
-    right: &mut [u64],
-) -> Answer {
-    let encoded = encode(param, key, seeded, measurement, results);
-    if encoded.number == 0 {
-        cut(key, measurement, left, right);
-    }
-    encoded
-}
-
-// What the two servers do, each alone: step 3.
-fn servers(
-    param: PineParam,
-    key: usize,
-    seeded: bool,
-    left: &mut [u64],
-    right: &mut [u64],
-) -> Answer {
-    let left_tested = test(param, key, seeded, left);
-    let right_tested = test(param, key, seeded, right);
-    left_tested.or(right_tested)
-}
-
-// The report of a key, and the sum of its two full shares: the first step that is refused is the last.
-pub fn make(
-    param: PineParam,
-    key: usize,
-    seeded: bool,
-    measurement: &mut [u64],
-    results: &mut [u64],
-    left: &mut [u64],
-    right: &mut [u64],
+    leader: &[u64],
+    helper: &[u64],
     full: &mut [u64],
+) -> bool {
+    row::add(leader, helper, full);
+    circuits_are_zero(param, key, full) && has_parts(param, full)
+}
+
+fn is_valid(param: PineParam, key: usize, leader: &[u64], helper: &[u64]) -> bool {
+    let n = leader.len();
+    if INPUT_LEN < n {
+        return false;
+    }
+    let mut full = [0u64; 33];
+    is_valid_in(param, key, leader, helper, &mut full[0..n])
+}
+
+// The client's step, into rows with room for a full share.
+fn cut_in(
+    param: PineParam,
+    key: usize,
+    leader: &mut [u64],
+    helper: &mut [u64],
+    given: &mut [u8],
 ) -> Answer {
-    let encoded = client(param, key, seeded, measurement, results, left, right);
-    if encoded.number != 0 {
-        return encoded;
+    let n = leader.len();
+    if n < TESTS {
+        return short();
     }
-    let tested = servers(param, key, seeded, left, right);
-    if tested.number == 0 {
-        row::add(left, right, full);
+    if helper.len() < n {
+        return short();
     }
-    tested
+    let encoded_len = n - TESTS;
+    cut(
+        param,
+        key,
+        &mut leader[0..encoded_len],
+        &mut helper[0..encoded_len],
+        given,
+    )
+}
+
+// All three steps: the first that is refused is the last. Whether the report was made, and is valid.
+pub fn is_made(
+    param: PineParam,
+    key: usize,
+    leader: &mut [u64],
+    helper: &mut [u64],
+    given: &mut [u8],
+) -> bool {
+    let made = cut_in(param, key, leader, helper, given);
+    if made.number != 0 {
+        return false;
+    }
+    let in_leader = test(param, given, leader);
+    let in_helper = test(param, given, helper);
+    let tested = in_leader.or(in_helper);
+    if tested.number != 0 {
+        return false;
+    }
+    is_valid(param, key, leader, helper)
 }

@@ -1,17 +1,6 @@
 // Steps over rows, by element.
 use crate::made_up::element;
 
-// What a row that was left from the last caller holds.
-const LEFT_OVER: u64 = 0xa5a5_a5a5_a5a5_a5a5;
-
-pub fn fill(row: &mut [u64]) {
-    let mut i = 0;
-    while i < row.len() {
-        row[i] = LEFT_OVER;
-        i += 1;
-    }
-}
-
 // As far as both rows go.
 pub fn copy(from: &[u64], to: &mut [u64]) {
     let mut i = 0;
@@ -21,20 +10,11 @@ pub fn copy(from: &[u64], to: &mut [u64]) {
     }
 }
 
-// all - left modulo p.
-pub fn subtract(all: &[u64], left: &[u64], right: &mut [u64]) {
+// leader + helper modulo p.
+pub fn add(leader: &[u64], helper: &[u64], all: &mut [u64]) {
     let mut i = 0;
-    while i < all.len() && i < left.len() && i < right.len() {
-        right[i] = field64::sub(element(all[i]), element(left[i]));
-        i += 1;
-    }
-}
-
-// left + right modulo p.
-pub fn add(left: &[u64], right: &[u64], all: &mut [u64]) {
-    let mut i = 0;
-    while i < all.len() && i < left.len() && i < right.len() {
-        all[i] = field64::add(element(left[i]), element(right[i]));
+    while i < all.len() && i < leader.len() && i < helper.len() {
+        all[i] = field64::add(element(leader[i]), element(helper[i]));
         i += 1;
     }
 }
@@ -62,11 +42,13 @@ pub fn same(a: &[u64], b: &[u64]) -> bool {
     true
 }
 
-// Whether each element is 0 or 1.
-pub fn are_bits(row: &[u64]) -> bool {
+pub fn same_bytes(a: &[u8], b: &[u8]) -> bool {
+    if a.len() != b.len() {
+        return false;
+    }
     let mut i = 0;
-    while i < row.len() {
-        if 1 < row[i] {
+    while i < a.len() && i < b.len() {
+        if a[i] != b[i] {
             return false;
         }
         i += 1;
@@ -86,4 +68,35 @@ pub fn same_doubles(a: &[f64], b: &[f64]) -> bool {
         i += 1;
     }
     true
+}
+
+// Whether each element is 0 or 1.
+pub fn are_bits(row: &[u64]) -> bool {
+    let mut i = 0;
+    while i < row.len() {
+        if 1 < row[i] {
+            return false;
+        }
+        i += 1;
+    }
+    true
+}
+
+// Whether a result is from -b + 1 to b, the upper half of the elements being the negative numbers.
+fn is_in_range(result: u64, b: u64) -> bool {
+    let above = field64::add(element(result), element(b));
+    0 < above && (above - 1) / 2 < b
+}
+
+// How many results are.
+pub fn in_range(results: &[u64], b: u64) -> u64 {
+    let mut n = 0;
+    let mut i = 0;
+    while i < results.len() {
+        if is_in_range(results[i], b) {
+            n = std::num::wrapping_add_u64(n, 1);
+        }
+        i += 1;
+    }
+    n
 }

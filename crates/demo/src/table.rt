@@ -11,7 +11,7 @@ use crate::row;
 ghost use Prim.Native.Nat.{_<_, _≤_};
 
 fn entry(decoded: f64, sum: f64, equal: bool) {
-    print::text(b"  ");
+    print::text(b"     ");
     print::double(decoded);
     print::text(b" ");
     print::double(sum);
@@ -22,78 +22,82 @@ fn entry(decoded: f64, sum: f64, equal: bool) {
     }
 }
 
-fn key(left: &[u64], right: &[u64], key: usize)
+fn key(leader: &[u64], helper: &[u64], key: usize)
     requires { ⌜ key < 24 ⌝ }
 {
-    let mut decoded = [0.0f64; 4];
-    let mut gradient = [0.0f64; 4];
+    let mut decoded = [0.0f64; 3];
+    let mut gradient = [0.0f64; 3];
     made_up::gradient(key, &mut gradient);
-    filing::read(left, right, key, &mut decoded);
-    entry(decoded[0], gradient[0], filing::is_true(left, right, key));
+    filing::read(leader, helper, key, &mut decoded);
+    entry(
+        decoded[0],
+        gradient[0],
+        filing::is_true(leader, helper, key),
+    );
 }
 
-fn valve(contents: &[u8], left: &[u64], right: &[u64], valve: usize)
+fn valve(contents: &[u8], leader: &[u64], helper: &[u64], valve: usize)
     requires { ⌜ valve < 12 ⌝ }
 {
     print::two_places(day_files::valve(contents, valve));
-    key(left, right, valve);
-    key(left, right, filing::VALVES + valve);
+    key(leader, helper, valve);
+    key(leader, helper, filing::VALVES + valve);
     print::text(b"\n");
 }
 
 // The merged aggregates of the two servers, and the true sum over the valves from the first key on.
-fn totals(left_total: &[u64], right_total: &[u64], first: usize, withdrawn: usize)
+fn totals(leader_total: &[u64], helper_total: &[u64], first: usize, withdrawn: usize)
     requires { ⌜ first ≤ 12 ⌝ }
 {
-    let mut decoded = [0.0f64; 4];
-    let mut sum = [0.0f64; 4];
-    vdaf::unshard(param(), left_total, right_total, &mut decoded);
+    let mut decoded = [0.0f64; 3];
+    let mut sum = [0.0f64; 3];
+    vdaf::unshard(param(), leader_total, helper_total, &mut decoded);
     filing::add_gradients(&mut sum, first, withdrawn);
     entry(decoded[0], sum[0], row::same_doubles(&decoded, &sum));
 }
 
 // All valves of a controller, from the first key on.
-fn controller(left: &[u64], right: &[u64], first: usize)
+fn controller(leader: &[u64], helper: &[u64], first: usize)
     requires { ⌜ first ≤ 12 ⌝ }
 {
-    let mut left_total = [0u64; 4];
-    let mut right_total = [0u64; 4];
-    filing::merge_valves(&mut left_total, left, first);
-    filing::merge_valves(&mut right_total, right, first);
-    totals(&left_total, &right_total, first, filing::KEYS);
+    let mut leader_total = [0u64; 3];
+    let mut helper_total = [0u64; 3];
+    filing::merge_valves(&mut leader_total, leader, first);
+    filing::merge_valves(&mut helper_total, helper, first);
+    totals(&leader_total, &helper_total, first, filing::KEYS);
 }
 
 // All valves of controller 1, where a key is withdrawn after they were merged.
-pub fn without(left: &[u64], right: &[u64], withdrawn: usize)
+pub fn without(leader: &[u64], helper: &[u64], withdrawn: usize)
     requires { ⌜ withdrawn < 24 ⌝ }
 {
-    let mut left_total = [0u64; 4];
-    let mut right_total = [0u64; 4];
-    filing::merge_valves(&mut left_total, left, 0);
-    filing::merge_valves(&mut right_total, right, 0);
-    filing::unmerge_key(&mut left_total, left, withdrawn);
-    filing::unmerge_key(&mut right_total, right, withdrawn);
+    let mut leader_total = [0u64; 3];
+    let mut helper_total = [0u64; 3];
+    filing::merge_valves(&mut leader_total, leader, 0);
+    filing::merge_valves(&mut helper_total, helper, 0);
+    filing::unmerge_key(&mut leader_total, leader, withdrawn);
+    filing::unmerge_key(&mut helper_total, helper, withdrawn);
     print::text(b"  ");
-    totals(&left_total, &right_total, 0, withdrawn);
+    totals(&leader_total, &helper_total, 0, withdrawn);
     print::text(b" all valves, without it\n");
 }
 
 // A key that was filed again.
-pub fn filed_again(left: &[u64], right: &[u64], again: usize)
+pub fn filed_again(leader: &[u64], helper: &[u64], again: usize)
     requires { ⌜ again < 24 ⌝ }
 {
     print::text(b"  ");
-    key(left, right, again);
+    key(leader, helper, again);
     print::text(b" its valve\n");
 }
 
-// What is left of a key.
-pub fn nothing_left(left: &[u64], right: &[u64], key: usize)
+// What is leader of a key.
+pub fn nothing_left(leader: &[u64], helper: &[u64], key: usize)
     requires { ⌜ key < 24 ⌝ }
 {
-    let mut decoded = [0.0f64; 4];
-    let nothing = [0.0f64; 4];
-    filing::read(left, right, key, &mut decoded);
+    let mut decoded = [0.0f64; 3];
+    let nothing = [0.0f64; 3];
+    filing::read(leader, helper, key, &mut decoded);
     print::text(b"  ");
     entry(
         decoded[0],
@@ -104,18 +108,18 @@ pub fn nothing_left(left: &[u64], right: &[u64], key: usize)
 }
 
 // An entry of both files: with what its two bodies begin, which alone is random, and what they give together.
-pub fn bodies(contents: &[u8], left: &[u64], right: &[u64], entry: usize)
+pub fn bodies(contents: &[u8], leader: &[u64], helper: &[u64], entry: usize)
     requires { ⌜ entry < 24 ⌝ }
 {
     let at = entry * DIMENSION;
-    if left.len() <= at {
+    if leader.len() <= at {
         return;
     }
-    if right.len() <= at {
+    if helper.len() <= at {
         return;
     }
-    let mut decoded = [0.0f64; 4];
-    filing::read(left, right, entry, &mut decoded);
+    let mut decoded = [0.0f64; 3];
+    filing::read(leader, helper, entry, &mut decoded);
     day_files::address(contents, entry);
     print::text(b", valve ");
     print::counted(day_files::valve(contents, entry), b", reports ");
@@ -123,9 +127,9 @@ pub fn bodies(contents: &[u8], left: &[u64], right: &[u64], entry: usize)
         day_files::reports(contents, entry),
         b": its bodies begin with ",
     );
-    print::element(left[at]);
+    print::element(leader[at]);
     print::text(b" and ");
-    print::element(right[at]);
+    print::element(helper[at]);
     print::text(b", together");
     print::double(decoded[0]);
     print::text(b"\n");
@@ -133,23 +137,23 @@ pub fn bodies(contents: &[u8], left: &[u64], right: &[u64], entry: usize)
 
 fn head(contents: &[u8]) {
     print::text(
-        b"coordinate 0 of each sum, and whether all 4 are equal\n     controller 1                 controller 2\n     ",
+        b"coordinate 0 of each sum, and whether all 3 are equal\n      controller 1            controller 2\n      ",
     );
     day_files::address(contents, 0);
-    print::text(b"            ");
+    print::text(b"       ");
     day_files::address(contents, filing::VALVES);
-    print::text(b"\nvalve  decoded       true           decoded       true\n");
+    print::text(b"\nvalve decoded   true          decoded   true\n");
 }
 
-pub fn print(contents: &[u8], left: &[u64], right: &[u64]) {
+pub fn print(contents: &[u8], leader: &[u64], helper: &[u64]) {
     head(contents);
     let mut i = 0;
     while i < filing::VALVES {
-        valve(contents, left, right, i);
+        valve(contents, leader, helper, i);
         i += 1;
     }
     print::text(b"  ");
-    controller(left, right, 0);
-    controller(left, right, filing::VALVES);
+    controller(leader, helper, 0);
+    controller(leader, helper, filing::VALVES);
     print::text(b" all valves, merged\n");
 }

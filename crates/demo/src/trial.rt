@@ -1,5 +1,5 @@
 // A trial block of young trees, with tighter margins: another multiplier of the wraparound tests' bound.
-use crate::day;
+use crate::filing;
 use crate::print;
 use crate::report;
 use pine::PineParam;
@@ -7,49 +7,44 @@ use pine::WrTestRule;
 use rules::Answer;
 ghost use Prim.Native.Nat.{_<_};
 
-// The inputs of report.rt, with the multiplier 1/2 in place of 87/10. Of the three tests two must succeed.
+// The inputs of report.rt, with the multiplier 1/3 in place of 87/10. Of the two tests one must succeed.
 pub fn param(wr_test_rule: WrTestRule) -> PineParam {
-    report::param_with(2, 1, 2, wr_test_rule, false)
+    report::param_with(1, 1, 3, wr_test_rule, false)
 }
 
-// 11. A smaller bound makes a shorter measurement. It also refuses more reports, whose tests have results
-// beyond it: such a client takes another seed.
-fn encode(key: usize) -> Answer {
-    let mut measurement = [0u64; 70];
-    let mut results = [0u64; 3];
-    report::encode(
+// 10. A smaller bound makes a shorter measurement. It also refuses more reports, whose tests have results
+// beyond it: such a client takes other seeds.
+fn cut(key: usize) -> Answer {
+    let mut leader = [0u64; 23];
+    let mut helper = [0u64; 23];
+    let mut given = [0u8; 32];
+    report::cut(
         param(WrTestRule::Every),
         key,
-        true,
-        &mut measurement,
-        &mut results,
+        &mut leader,
+        &mut helper,
+        &mut given,
     )
 }
 
 pub fn print(key: usize) {
-    print::encoded(encode(key));
+    print::outcome(cut(key), b"cut");
 }
 
-// 12. Or two tests of three are enough: the one that misses is written as zeros, and the servers find the
-// report valid. Whether it was filed.
-pub fn file(key: usize, left: &mut [u64], right: &mut [u64]) -> bool
+// 11. Or one test of two is enough: the one that misses is written as zeros, and the servers find the report
+// valid. Whether it was filed.
+pub fn file(key: usize, leader_sums: &mut [u64], helper_sums: &mut [u64]) -> bool
     requires { ⌜ key < 24 ⌝ }
 {
-    let mut measurement = [0u64; 70];
-    let mut results = [0u64; 3];
-    let mut left_share = [0u64; 73];
-    let mut right_share = [0u64; 73];
-    let mut full = [0u64; 73];
-    day::report_in(
-        param(WrTestRule::Enough),
-        key,
-        true,
-        left,
-        right,
-        &mut measurement,
-        &mut results,
-        &mut left_share,
-        &mut right_share,
-        &mut full,
-    )
+    let param = param(WrTestRule::Enough);
+    let mut leader = [0u64; 25];
+    let mut helper = [0u64; 25];
+    let mut given = [0u8; 32];
+    if !report::is_made(param, key, &mut leader, &mut helper, &mut given) {
+        return false;
+    }
+    let in_leader = filing::file(param, leader_sums, key, &leader);
+    let in_helper = filing::file(param, helper_sums, key, &helper);
+    let filed = in_leader.or(in_helper);
+    filed.number == 0
 }

@@ -3,7 +3,7 @@ use pine::PineParam;
 use pine::record::Pine;
 use rules::Answer;
 
-pub mod cut;
+pub mod split;
 
 ghost use mathlib.Core.Path.{_≡_};
 ghost use Rattle.rules.specs.Rules.{answer, inOrder};
@@ -121,7 +121,7 @@ pub fn gradient_part<'a>(
     ensures { λ r. ⌜ outcome (answer (now (number .exit)) (now (place .exit))) (now r) ≡ gradientPartOf Field64 param (now (full .entry)) ⌝ }
 {
     let pine = check_into(param, full, number, place);
-    cut::gradient(pine, full)
+    split::gradient(pine, full)
 }
 
 // The L checked elements.
@@ -134,7 +134,7 @@ pub fn checked_part<'a>(
     ensures { λ r. ⌜ outcome (answer (now (number .exit)) (now (place .exit))) (now r) ≡ checkedPartOf Field64 param (now (full .entry)) ⌝ }
 {
     let pine = check_into(param, full, number, place);
-    cut::checked(pine, full)
+    split::checked(pine, full)
 }
 
 // The results of the tests.
@@ -147,5 +147,5 @@ pub fn results_part<'a>(
     ensures { λ r. ⌜ outcome (answer (now (number .exit)) (now (place .exit))) (now r) ≡ resultsPartOf Field64 param (now (full .entry)) ⌝ }
 {
     let pine = check_into(param, full, number, place);
-    cut::results(pine, full)
+    split::results(pine, full)
 }

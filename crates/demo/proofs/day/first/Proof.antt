@@ -8,28 +8,22 @@ use Rattle.demo.proofs.day.first.Statement.{statement}
 use Rattle.demo.proofs.day.first.Tie as tie
 
 abbrev Inv-loop : tie.InvT-loop
-Inv-loop left₀ right₀ left-second₀ right-second₀ len₀ valve₀ left right left-second right-second len valve = (length left ≡ length left₀) × (length right ≡ length right₀) × (length left-second ≡ length left-second₀) × (length right-second ≡ length right-second₀) × (valve ≤ 12)
+Inv-loop leaders₀ helpers₀ given₀ n₀ key₀ leaders helpers given n key = (length leaders ≡ length leaders₀) × (length helpers ≡ length helpers₀) × (length given ≡ length given₀) × (key ≤ 24)
 
 abbrev μ-loop : tie.MeasureT-loop
-μ-loop left₀ right₀ left-second₀ right-second₀ len₀ valve₀ left right left-second right-second len valve = 12 - valve
-
-begin-both-requires : tie.Need-begin-both-requires Inv-loop μ-loop
-begin-both-requires c κs = search needs
+μ-loop leaders₀ helpers₀ given₀ n₀ key₀ leaders helpers given n key = 24 - key
 
 loop-holds : tie.Need-loop-holds Inv-loop μ-loop
 loop-holds c = search needs
 
-fresh-report-requires : tie.Need-fresh-report-requires Inv-loop μ-loop
-fresh-report-requires c κs = search needs
+is-made-requires : tie.Need-is-made-requires Inv-loop μ-loop
+is-made-requires c κs = search needs
 
-add-fresh-report : tie.Need-add-fresh-report Inv-loop μ-loop
-add-fresh-report c = search needs
+more-requires : tie.Need-more-requires Inv-loop μ-loop
+more-requires c κs = search needs
 
-fresh-report-requires-2 : tie.Need-fresh-report-requires-2 Inv-loop μ-loop
-fresh-report-requires-2 c κs = search needs
-
-add-valve : tie.Need-add-valve Inv-loop μ-loop
-add-valve c = search needs
+add-key : tie.Need-add-key Inv-loop μ-loop
+add-key c = search needs
 
 loop-less : tie.Need-loop-less Inv-loop μ-loop
 loop-less c = search needs
@@ -46,9 +40,6 @@ same-length-2 c = search needs
 same-length-3 : tie.Need-same-length-3 Inv-loop μ-loop
 same-length-3 c = search needs
 
-same-length-4 : tie.Need-same-length-4 Inv-loop μ-loop
-same-length-4 c = search needs
-
 returns : tie.Need-returns Inv-loop μ-loop
 returns c = search needs
 
@@ -58,16 +49,13 @@ first-spec =
     (tie.spec
     Inv-loop
     μ-loop
-    begin-both-requires
     loop-holds
-    fresh-report-requires
-    add-fresh-report
-    fresh-report-requires-2
-    add-valve
+    is-made-requires
+    more-requires
+    add-key
     loop-less
     loop-again
     same-length
     same-length-2
     same-length-3
-    same-length-4
     returns)

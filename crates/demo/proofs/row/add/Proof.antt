@@ -9,10 +9,10 @@ use Rattle.demo.proofs.row.add.Statement.{statement}
 use Rattle.demo.proofs.row.add.Tie as tie
 
 abbrev Inv-loop : tie.InvT-loop
-Inv-loop left right all₀ i₀ all i = (length all ≡ length all₀) × (i ≤ length all₀)
+Inv-loop leader helper all₀ i₀ all i = (length all ≡ length all₀) × (i ≤ length all₀)
 
 abbrev μ-loop : tie.MeasureT-loop
-μ-loop left right all₀ i₀ all i = length all₀ - i
+μ-loop leader helper all₀ i₀ all i = length all₀ - i
 
 loop-holds : tie.Need-loop-holds Inv-loop μ-loop
 loop-holds c = search needs

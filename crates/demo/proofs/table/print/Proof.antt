@@ -6,10 +6,10 @@ use Rattle.demo.proofs.table.print.Statement.{statement}
 use Rattle.demo.proofs.table.print.Tie as tie
 
 abbrev Inv-loop : tie.InvT-loop
-Inv-loop contents left right i₀ t5 t6 i = (i ≤ 12)
+Inv-loop contents leader helper i₀ t5 t6 i = (i ≤ 12)
 
 abbrev μ-loop : tie.MeasureT-loop
-μ-loop contents left right i₀ t5 t6 i = 12 - i
+μ-loop contents leader helper i₀ t5 t6 i = 12 - i
 
 head-requires : tie.Need-head-requires Inv-loop μ-loop
 head-requires c κs = search needs

@@ -1,15 +1,15 @@
--- `demo::day::true_keys` is safe and ends.
+-- `demo::filing::true_keys` is safe and ends.
 -- Assumes nothing.
 use borrow.Author.Needs.{needs}
 use Prim.Native.Nat.{_≤_, _-_}
-use Rattle.demo.proofs.day.true_keys.Statement.{statement}
-use Rattle.demo.proofs.day.true_keys.Tie as tie
+use Rattle.demo.proofs.filing.true_keys.Statement.{statement}
+use Rattle.demo.proofs.filing.true_keys.Tie as tie
 
 abbrev Inv-loop : tie.InvT-loop
-Inv-loop left right n₀ key₀ n key = (key ≤ 24)
+Inv-loop leader helper n₀ key₀ n key = (key ≤ 24)
 
 abbrev μ-loop : tie.MeasureT-loop
-μ-loop left right n₀ key₀ n key = 24 - key
+μ-loop leader helper n₀ key₀ n key = 24 - key
 
 loop-holds : tie.Need-loop-holds Inv-loop μ-loop
 loop-holds c = search needs

@@ -1,21 +1,30 @@
--- `demo::row::fill` is safe and ends. The invariant: the rows keep their length.
+-- `demo::made_up::joint_rand` is safe and ends. The invariant: the rows keep their length.
 -- Assumes nothing.
 use borrow.Author.Needs.{needs}
 use Prim.Native.Nat.{_≤_, _-_}
 use mathlib.Core.Path.{_≡_}
 use native.Mathlib.Omega.{arith}
 use lib.ListN.{length, length-set}
-use Rattle.demo.proofs.row.fill.Statement.{statement}
-use Rattle.demo.proofs.row.fill.Tie as tie
+use Rattle.demo.proofs.made_up.joint_rand.Statement.{statement}
+use Rattle.demo.proofs.made_up.joint_rand.Tie as tie
 
 abbrev Inv-loop : tie.InvT-loop
-Inv-loop row₀ i₀ row i = (length row ≡ length row₀) × (i ≤ length row₀)
+Inv-loop key row₀ state₀ i₀ row state i = (length row ≡ length row₀) × (i ≤ length row₀)
 
 abbrev μ-loop : tie.MeasureT-loop
-μ-loop row₀ i₀ row i = length row₀ - i
+μ-loop key row₀ state₀ i₀ row state i = length row₀ - i
+
+begin-requires : tie.Need-begin-requires Inv-loop μ-loop
+begin-requires c κs = search needs
 
 loop-holds : tie.Need-loop-holds Inv-loop μ-loop
 loop-holds c = search needs
+
+next-requires : tie.Need-next-requires Inv-loop μ-loop
+next-requires c κs = search needs
+
+element-requires : tie.Need-element-requires Inv-loop μ-loop
+element-requires c κs = search needs
 
 mul-row : tie.Need-mul-row Inv-loop μ-loop
 mul-row c = search needs
@@ -38,13 +47,16 @@ same-length c = search needs
 returns : tie.Need-returns Inv-loop μ-loop
 returns c = search needs
 
-pub fill-spec : {M : Type 1} → statement M
-fill-spec =
+pub joint-rand-spec : {M : Type 1} → statement M
+joint-rand-spec =
     tie.close
     (tie.spec
     Inv-loop
     μ-loop
+    begin-requires
     loop-holds
+    next-requires
+    element-requires
     mul-row
     slice-write-row
     add-i

@@ -1,8 +1,8 @@
--- `parts::cut::between` meets its contract. Assumes nothing.
+-- `parts::split::between` meets its contract. Assumes nothing.
 use borrow.Author.Needs.{needs}
 use Rattle.parts.proofs.Places.{between-is}
-use Rattle.parts.proofs.cut.between.Statement.{statement}
-use Rattle.parts.proofs.cut.between.Tie as tie
+use Rattle.parts.proofs.split.between.Statement.{statement}
+use Rattle.parts.proofs.split.between.Tie as tie
 
 add-end : tie.Need-add-end
 add-end c = search needs
