@@ -19,8 +19,8 @@ const ROUND_CONSTANTS: [u64; 12] = [
     0x8000_0000_8000_8008,
 ];
 
-// A round is in two halves, each small enough that LLVM puts it in its place, twice in a turn of the loop. It goes plane
-// by plane of what comes out, so that few lanes are held at a time. The names have their x, then their y.
+// A round is in two halves, each small enough that LLVM puts it in its place at every call. It goes plane by plane of what
+// comes out, so that few lanes are held at a time. The names have their x, then their y.
 
 // The first half: what theta adds to each column, then the planes y = 0 and 1 of what comes out.
 fn begin_round(a: [u64; 25], rc: u64) -> [u64; 15]
@@ -173,20 +173,23 @@ fn end_round(a: [u64; 25], begun: [u64; 15]) -> [u64; 25]
     ]
 }
 
-// The permutation, in place: two rounds a turn.
+// The permutation, in place: its twelve rounds one after the other.
 pub fn permute(lanes: &mut [u64; 25])
     ensures { λ _. ⌜ now (lanes .exit) ≡ keccakP (now (lanes .entry)) ⌝ }
 {
-    // A constant is laid out anew where it is named: here once, not in each turn.
-    let constants = ROUND_CONSTANTS;
-    let mut s = *lanes;
-    let mut i: usize = 0;
-    while i < 6 {
-        let k = 2 * i;
-        let middle = end_round(s, begin_round(s, constants[k]));
-        let next = end_round(middle, begin_round(middle, constants[k + 1]));
-        s = next;
-        i += 1;
-    }
-    *lanes = s;
+    let rc = ROUND_CONSTANTS;
+    let s0 = *lanes;
+    let s1 = end_round(s0, begin_round(s0, rc[0]));
+    let s2 = end_round(s1, begin_round(s1, rc[1]));
+    let s3 = end_round(s2, begin_round(s2, rc[2]));
+    let s4 = end_round(s3, begin_round(s3, rc[3]));
+    let s5 = end_round(s4, begin_round(s4, rc[4]));
+    let s6 = end_round(s5, begin_round(s5, rc[5]));
+    let s7 = end_round(s6, begin_round(s6, rc[6]));
+    let s8 = end_round(s7, begin_round(s7, rc[7]));
+    let s9 = end_round(s8, begin_round(s8, rc[8]));
+    let s10 = end_round(s9, begin_round(s9, rc[9]));
+    let s11 = end_round(s10, begin_round(s10, rc[10]));
+    let s12 = end_round(s11, begin_round(s11, rc[11]));
+    *lanes = s12;
 }
