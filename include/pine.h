@@ -29,7 +29,7 @@
  * - Every element of a row that is read has been written once. Output rows may be uninitialised.
  * - The floating-point environment is C's default: round to nearest, exceptions masked, subnormals kept
  *   (neither flush-to-zero nor denormals-are-zero, which gcc's -ffast-math turns on in main programs).
- * - The stack has room: docs/C.md has the measured need of each call, at most 33328 bytes.
+ * - The stack has room: docs/C.md has the measured need of each call, at most 32544 bytes.
  *
  * No call keeps state, allocates, locks, does input or output, or fails otherwise than by its answer:
  * any number of threads may call at once. Nothing depends on a NaN's payload or sign: a NaN is refused,
