@@ -2,7 +2,7 @@
  *
  * What it is not: a whole VDAF (verifiable distributed aggregation function). There is no FLP proof (fully linear
  * proof), query or prepare, so two servers that hold only shares cannot check a report with this alone; all
- * randomness is the caller's, time is not constant, and nothing is said of privacy. README.md, "What it is not",
+ * randomness is the caller's, nothing is proved of time, and nothing is said of privacy. README.md, "What it is not",
  * has each of these, and what the randomness must be; "A report, step by step" says what the words here mean.
  *
  * Each call is the function of the same name in the Rattle crates doubles, params, wr_tests, encode, cut, sampler,
@@ -34,6 +34,11 @@
  * No call keeps state, allocates, locks, does input or output, or fails otherwise than by its answer:
  * any number of threads may call at once. Nothing depends on a NaN's payload or sign: a NaN is refused,
  * and no call gives one.
+ *
+ * The time of an accepted call depends on the inputs, the lengths and what is public, and of secrets only on a seed's
+ * stream, by the values that sampling skips and by the cache lines of the tests' tables; that was measured, and is not
+ * proved (docs/SECRETS.md). pine_cut wipes the stack that it used; what other calls leave there, and all of them in vector
+ * registers, the caller can clear (docs/C.md, "What a call leaves").
  *
  * The archive is code for x86-64 (System V calls, position-independent, no instruction beyond SSE2). All it
  * takes from a C library is memcpy and memset.
