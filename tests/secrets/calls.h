@@ -204,6 +204,9 @@ static const struct {
     {4200, 20, 20, 1u << 26, 8, {87, 10}, PINE_EVERY_TEST, 1, 0}, /* a seed's tests go by tiles */
     {1, 1, 0, 3037000499u, 0, {87, 10}, PINE_ENOUGH_TESTS, 0, 1},
     {64, 6, 6, 1u << 20, 8, {87, 10}, PINE_EVERY_TEST, 0, 1},
+    {333, 3, 3, 1u << 26, 8, {87, 10}, PINE_EVERY_TEST, 0, 1}, /* the longest that an encoding does not wipe */
+    {159, 10, 10, 1u << 26, 8, {87, 10}, PINE_EVERY_TEST, 0, 1}, /* that tests on a lent stream do not */
+    {499, 10, 10, 1u << 26, 8, {87, 10}, PINE_EVERY_TEST, 0, 1}, /* that tests from a seed do not */
     {1027, 100, 100, 1u << 30, 20, {87, 10}, PINE_EVERY_TEST, 0, 1},
     {4300, 256, 200, 1u << 30, 15, {87, 10}, PINE_ENOUGH_TESTS, 0, 1},
     {65536, 5, 5, 1u << 30, 15, {87, 10}, PINE_EVERY_TEST, 1, 1},

@@ -1,7 +1,8 @@
 /* left LONG [CALL]    what accepting calls leave of secrets on their stack: each is run on a painted stack of its own,
  *                     several times beside the same public values, and a word there that is not the same every time
  *                     depends on secrets. Prints CALL WORDS REGISTERS and, by kind, how many of the words are
- *                     recognised: the most in any case
+ *                     recognised: the most in any case; of calls that wipe their stack where they are long, those
+ *                     have a line of their own, CALL(long)
  *
  * left own            the same of calls that are made on a stack of their own by examples/c/own_stack.h, on that stack
  *                     and on the caller's; fails where a word is left, in a register too
@@ -345,7 +346,28 @@ static void know_rows(int call) {
 
 static uint64_t seen[STACK], highest[STACK], seen_registers[REGISTERS];
 static uint8_t differs[STACK], kind_at[STACK], register_differs[REGISTERS];
-static size_t tops[CALLS][2 + WORD_KINDS];
+static size_t tops[2 * CALLS][2 + WORD_KINDS]; /* by call, and then of those that wipe their stack */
+
+/* Calls that wipe their stack from so many coordinates times tests on (docs/C.md, "What a call leaves"). */
+static const struct {
+    const char *name;
+    uint64_t least;
+} wiping[] = {
+    {"encode_with_wr_joint_rand", 1000},
+    {"encode_with_wr_joint_rand_seed", 1000},
+    {"run_wr_tests", 1600},
+    {"run_wr_tests_seed", 5000},
+};
+enum { WIPING = sizeof wiping / sizeof *wiping };
+
+static uint64_t least_of(int call) {
+    for (int i = 0; i < WIPING; i++) {
+        if (strcmp(wiping[i].name, calls[call].name) == 0) {
+            return wiping[i].least;
+        }
+    }
+    return UINT64_MAX;
+}
 
 static int by_own_stack;
 
@@ -389,7 +411,7 @@ static void compare(int first) {
     memcpy(seen, stack, sizeof seen), memcpy(seen_registers, vectors + 20, sizeof seen_registers);
 }
 
-static void count(int call) {
+static void count(int row_of) {
     size_t counts[2 + WORD_KINDS] = {0};
     for (size_t i = 0; i < STACK; i++) {
         if (differs[i]) {
@@ -399,11 +421,11 @@ static void count(int call) {
     for (int i = 0; i < REGISTERS; i++) {
         counts[1] += register_differs[i];
     }
-    size_t registers = counts[1] > tops[call][1] ? counts[1] : tops[call][1];
-    if (counts[0] > tops[call][0]) {
-        memcpy(tops[call], counts, sizeof counts);
+    size_t registers = counts[1] > tops[row_of][1] ? counts[1] : tops[row_of][1];
+    if (counts[0] > tops[row_of][0]) {
+        memcpy(tops[row_of], counts, sizeof counts);
     }
-    tops[call][1] = registers;
+    tops[row_of][1] = registers;
 }
 
 int main(int argc, char **argv) {
@@ -433,13 +455,13 @@ int main(int argc, char **argv) {
                 fprintf(stderr, "left: %s: case %d has no two accepting calls\n", calls[call].name, c);
                 return 1;
             }
-            count(call);
+            count(cases[c].d * cases[c].t >= least_of(call) ? CALLS + call : call);
         }
     }
-    for (int call = 0; by_own_stack && call < CALLS; call++) {
-        if (tops[call][0] > 0 || tops[call][1] > 0) {
-            fprintf(stderr, "left: %s from a stack of its own: %zu words, %zu in registers\n", calls[call].name,
-                    tops[call][0], tops[call][1]);
+    for (int i = 0; by_own_stack && i < 2 * CALLS; i++) {
+        if (tops[i][0] > 0 || tops[i][1] > 0) {
+            fprintf(stderr, "left: %s from a stack of its own: %zu words, %zu in registers\n", calls[i % CALLS].name,
+                    tops[i][0], tops[i][1]);
             return 1;
         }
     }
@@ -447,10 +469,12 @@ int main(int argc, char **argv) {
     for (int k = 0; k < WORD_KINDS; k++) {
         printf(" %s", word_kinds[k]);
     }
-    for (int call = 0; call < CALLS; call++) {
-        printf("\n%s", calls[call].name);
-        for (int k = 0; k < 2 + WORD_KINDS; k++) {
-            printf(" %zu", tops[call][k]);
+    for (int i = 0; i < 2 * CALLS; i++) {
+        if (i < CALLS || least_of(i % CALLS) != UINT64_MAX) {
+            printf("\n%s%s", calls[i % CALLS].name, i < CALLS ? "" : "(long)");
+            for (int k = 0; k < 2 + WORD_KINDS; k++) {
+                printf(" %zu", tops[i][k]);
+            }
         }
     }
     printf("\n");

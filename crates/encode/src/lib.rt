@@ -133,17 +133,17 @@ fn encode_in(
     finish(param, pine, gradient, norm, found, measurement, results)
 }
 
-// Encodes a gradient, with the lent stream for the wraparound tests: the measurement goes to one row
-// and the tests' results to another. A short gradient costs little more than the row that has to be
-// set to 0 for it.
-pub fn encode_with_wr_joint_rand(
+// Encoding with a row of its own for the results. A short gradient costs little more than that row, which has to be set to
+// 0, so few tests have a short one. Both calls come here, so that LLVM lays it out in neither: its frame is not theirs.
+fn encode_by(
     param: PineParam,
     gradient: &[f64],
-    stream: &[u8],
+    seeded: bool,
+    row: &[u8],
     measurement: &mut [u64],
     results: &mut [u64],
 ) -> Answer
-    ensures { λ r. ⌜ encodeOutcome r (now (measurement .exit)) (now (results .exit)) ≡ encodeOf Field64 param (now (gradient .entry)) (now (stream .entry)) (now (measurement .entry)) (now (results .entry)) ⌝ }
+    ensures { λ r. ⌜ encodeOutcome r (now (measurement .exit)) (now (results .exit)) ≡ encodeOf Field64 param (now (gradient .entry)) (streamFrom seeded (streamLen (param .«num_wr_tests») (param .dimension)) (now (row .entry))) (now (measurement .entry)) (now (results .entry)) ⌝ }
 {
     let tests = results.len();
     if tests <= 8 {
@@ -151,8 +151,8 @@ pub fn encode_with_wr_joint_rand(
         return encode_in(
             param,
             gradient,
-            false,
-            stream,
+            seeded,
+            row,
             &mut found[..tests],
             measurement,
             results,
@@ -163,8 +163,8 @@ pub fn encode_with_wr_joint_rand(
         return encode_in(
             param,
             gradient,
-            false,
-            stream,
+            seeded,
+            row,
             &mut found[..tests],
             measurement,
             results,
@@ -175,12 +175,26 @@ pub fn encode_with_wr_joint_rand(
     encode_in(
         param,
         gradient,
-        false,
-        stream,
+        seeded,
+        row,
         &mut found[..count],
         measurement,
         results,
     )
+}
+
+// Encodes a gradient, with the lent stream for the wraparound tests: the measurement goes to one row
+// and the tests' results to another.
+pub fn encode_with_wr_joint_rand(
+    param: PineParam,
+    gradient: &[f64],
+    stream: &[u8],
+    measurement: &mut [u64],
+    results: &mut [u64],
+) -> Answer
+    ensures { λ r. ⌜ encodeOutcome r (now (measurement .exit)) (now (results .exit)) ≡ encodeOf Field64 param (now (gradient .entry)) (now (stream .entry)) (now (measurement .entry)) (now (results .entry)) ⌝ }
+{
+    encode_by(param, gradient, false, stream, measurement, results)
 }
 
 // Encodes a gradient, with the stream that a seed of 16 bytes makes.
@@ -193,15 +207,5 @@ pub fn encode_with_wr_joint_rand_seed(
 ) -> Answer
     ensures { λ r. ⌜ encodeOutcome r (now (measurement .exit)) (now (results .exit)) ≡ encodeOf Field64 param (now (gradient .entry)) (wrStream (streamLen (param .«num_wr_tests») (param .dimension)) (now (seed .entry))) (now (measurement .entry)) (now (results .entry)) ⌝ }
 {
-    let mut found = [0u64; 256];
-    let count = groups::at_most(results.len(), 256);
-    encode_in(
-        param,
-        gradient,
-        true,
-        seed,
-        &mut found[..count],
-        measurement,
-        results,
-    )
+    encode_by(param, gradient, true, seed, measurement, results)
 }

@@ -14,3 +14,13 @@ pub fn wipe(rows: usize) -> usize
     let below = wipe(rows - 1);
     row[below % 128]
 }
+
+// The same after a call that did so much, where that is the least or more.
+pub fn wipe_after(done: usize, least: usize, rows: usize) -> usize
+    ensures { λ r. ⌜ r ≡ 0 ⌝ }
+{
+    if done < least {
+        return 0;
+    }
+    wipe(rows)
+}

@@ -13,6 +13,12 @@ param-of-requires c κs = search needs
 encode-with-wr-joint-rand-requires : tie.Need-encode-with-wr-joint-rand-requires
 encode-with-wr-joint-rand-requires c κs = search needs
 
+work-requires : tie.Need-work-requires
+work-requires c κs = search needs
+
+wipe-after-requires : tie.Need-wipe-after-requires
+wipe-after-requires c κs = search needs
+
 same-length : tie.Need-same-length
 same-length c = search needs
 
@@ -21,8 +27,8 @@ same-length-2 c = search needs
 
 returns : tie.Need-returns
 returns c =
-    let s = c .before .before .before .before .before .before .before .before .before .before .before .before in
-    c .before .before .before .before .encode-with-wr-joint-rand .ensures ∙ ap (λ (i : PineParam). encodeOf Field64 i (s .args .gradient .now) (s .args .stream .now) (s .args .measurement .now) (s .args .results .now)) (c .before .before .before .before .before .before .before .param-of .ensures)
+    let s = c .before .before .before .before .before .before .before .before .before .before .before .before .before .before in
+    c .before .before .before .before .before .before .encode-with-wr-joint-rand .ensures ∙ ap (λ (i : PineParam). encodeOf Field64 i (s .args .gradient .now) (s .args .stream .now) (s .args .measurement .now) (s .args .results .now)) (c .before .before .before .before .before .before .before .before .before .param-of .ensures)
 
 pub pine-encode-with-wr-joint-rand-spec : {M : Type 1} → statement M
 pine-encode-with-wr-joint-rand-spec =
@@ -30,6 +36,8 @@ pine-encode-with-wr-joint-rand-spec =
     (tie.spec
     param-of-requires
     encode-with-wr-joint-rand-requires
+    work-requires
+    wipe-after-requires
     same-length
     same-length-2
     returns)

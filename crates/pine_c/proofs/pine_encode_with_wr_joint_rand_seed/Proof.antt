@@ -15,6 +15,15 @@ param-of-requires c κs = search needs
 encode-with-wr-joint-rand-seed-requires : tie.Need-encode-with-wr-joint-rand-seed-requires
 encode-with-wr-joint-rand-seed-requires c κs = search needs
 
+work-requires : tie.Need-work-requires
+work-requires c κs = search needs
+
+encode-seed-rows-requires : tie.Need-encode-seed-rows-requires
+encode-seed-rows-requires c κs = search needs
+
+wipe-after-requires : tie.Need-wipe-after-requires
+wipe-after-requires c κs = search needs
+
 same-length : tie.Need-same-length
 same-length c = search needs
 
@@ -23,8 +32,8 @@ same-length-2 c = search needs
 
 returns : tie.Need-returns
 returns c =
-    let s = c .before .before .before .before .before .before .before .before .before .before .before .before in
-    c .before .before .before .before .encode-with-wr-joint-rand-seed .ensures ∙ ap (λ (i : PineParam). encodeOf Field64 i (s .args .gradient .now) (wrStream (streamLen (i .«num_wr_tests») (i .dimension)) (s .args .seed .now)) (s .args .measurement .now) (s .args .results .now)) (c .before .before .before .before .before .before .before .param-of .ensures)
+    let s = c .before .before .before .before .before .before .before .before .before .before .before .before .before .before .before in
+    c .before .before .before .before .before .before .before .encode-with-wr-joint-rand-seed .ensures ∙ ap (λ (i : PineParam). encodeOf Field64 i (s .args .gradient .now) (wrStream (streamLen (i .«num_wr_tests») (i .dimension)) (s .args .seed .now)) (s .args .measurement .now) (s .args .results .now)) (c .before .before .before .before .before .before .before .before .before .before .param-of .ensures)
 
 pub pine-encode-with-wr-joint-rand-seed-spec : {M : Type 1} → statement M
 pine-encode-with-wr-joint-rand-seed-spec =
@@ -32,6 +41,9 @@ pine-encode-with-wr-joint-rand-seed-spec =
     (tie.spec
     param-of-requires
     encode-with-wr-joint-rand-seed-requires
+    work-requires
+    encode-seed-rows-requires
+    wipe-after-requires
     same-length
     same-length-2
     returns)

@@ -13,14 +13,27 @@ param-of-requires c κs = search needs
 run-wr-tests-requires : tie.Need-run-wr-tests-requires
 run-wr-tests-requires c κs = search needs
 
+work-requires : tie.Need-work-requires
+work-requires c κs = search needs
+
+wipe-after-requires : tie.Need-wipe-after-requires
+wipe-after-requires c κs = search needs
+
 same-length : tie.Need-same-length
 same-length c = search needs
 
 returns : tie.Need-returns
 returns c =
-    let s = c .before .before .before .before .before .before .before .before in
-    c .before .before .run-wr-tests .ensures ∙ ap (λ (i : PineParam). runTestsOf Field64 i (s .args .gradient .now) (s .args .stream .now) (s .args .results .now)) (c .before .before .before .before .param-of .ensures)
+    let s = c .before .before .before .before .before .before .before .before .before .before in
+    c .before .before .before .before .run-wr-tests .ensures ∙ ap (λ (i : PineParam). runTestsOf Field64 i (s .args .gradient .now) (s .args .stream .now) (s .args .results .now)) (c .before .before .before .before .before .before .param-of .ensures)
 
 pub pine-run-wr-tests-spec : {M : Type 1} → statement M
 pine-run-wr-tests-spec =
-    tie.close (tie.spec param-of-requires run-wr-tests-requires same-length returns)
+    tie.close
+    (tie.spec
+    param-of-requires
+    run-wr-tests-requires
+    work-requires
+    wipe-after-requires
+    same-length
+    returns)

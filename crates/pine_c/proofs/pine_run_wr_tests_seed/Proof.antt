@@ -20,9 +20,36 @@ same-length c = search needs
 
 returns : tie.Need-returns
 returns c =
-    let s = c .before .before .before .before .before .before .before .before in
-    c .before .before .run-wr-tests-seed .ensures ∙ ap (λ (i : PineParam). runTestsOf Field64 i (s .args .gradient .now) (wrStream (streamLen (i .«num_wr_tests») (i .dimension)) (s .args .seed .now)) (s .args .results .now)) (c .before .before .before .before .param-of .ensures)
+    let s = c .before .before .before .before .before .before .before .before .before in
+    c .before .before .run-wr-tests-seed .ensures ∙ ap (λ (i : PineParam). runTestsOf Field64 i (s .args .gradient .now) (wrStream (streamLen (i .«num_wr_tests») (i .dimension)) (s .args .seed .now)) (s .args .results .now)) (c .before .before .before .before .before .param-of .ensures)
+
+run-wr-tests-seed-requires-2 : tie.Need-run-wr-tests-seed-requires-2
+run-wr-tests-seed-requires-2 c κs = search needs
+
+work-requires : tie.Need-work-requires
+work-requires c κs = search needs
+
+wipe-after-requires : tie.Need-wipe-after-requires
+wipe-after-requires c κs = search needs
+
+same-length-2 : tie.Need-same-length-2
+same-length-2 c = search needs
+
+returns-2 : tie.Need-returns-2
+returns-2 c =
+    let s = c .before .before .before .before .before .before .before .before .before .before .before in
+    c .before .before .before .before .run-wr-tests-seed2 .ensures ∙ ap (λ (i : PineParam). runTestsOf Field64 i (s .args .gradient .now) (wrStream (streamLen (i .«num_wr_tests») (i .dimension)) (s .args .seed .now)) (s .args .results .now)) (c .before .before .before .before .before .before .before .param-of .ensures)
 
 pub pine-run-wr-tests-seed-spec : {M : Type 1} → statement M
 pine-run-wr-tests-seed-spec =
-    tie.close (tie.spec param-of-requires run-wr-tests-seed-requires same-length returns)
+    tie.close
+    (tie.spec
+    param-of-requires
+    run-wr-tests-seed-requires
+    same-length
+    returns
+    run-wr-tests-seed-requires-2
+    work-requires
+    wipe-after-requires
+    same-length-2
+    returns-2)

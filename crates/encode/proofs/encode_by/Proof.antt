@@ -1,11 +1,11 @@
--- `encode::encode_with_wr_joint_rand` meets its contract. Assumes nothing.
+-- `encode::encode_by` meets its contract. Assumes nothing.
 use borrow.Author.Needs.{needs}
 use mathlib.Core.Path.{sym, _∙_}
 use native.Mathlib.Omega.{arith}
 use lib.ListN.{length}
 use Rattle.gradient.proofs.Norm.{part-long}
-use Rattle.encode.proofs.encode_with_wr_joint_rand.Statement.{statement}
-use Rattle.encode.proofs.encode_with_wr_joint_rand.Tie as tie
+use Rattle.encode.proofs.encode_by.Statement.{statement}
+use Rattle.encode.proofs.encode_by.Tie as tie
 
 array-borrow-prefix-found : tie.Need-array-borrow-prefix-found
 array-borrow-prefix-found c = search needs
@@ -64,8 +64,8 @@ same-length-6 c = search needs
 returns-3 : tie.Need-returns-3
 returns-3 c = search needs
 
-pub encode-with-wr-joint-rand-spec : {M : Type 1} → statement M
-encode-with-wr-joint-rand-spec =
+pub encode-by-spec : {M : Type 1} → statement M
+encode-by-spec =
     tie.close
     (tie.spec
     array-borrow-prefix-found
