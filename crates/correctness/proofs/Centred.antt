@@ -2,24 +2,16 @@
 use mathlib.Core.Path.{_≡_, refl, sym, ap, _∙_}
 use mathlib.Core.Bool.{Bool, true, false, cond}
 use Prim.Native.Nat.{ℕ, suc, _+_, _-_, _/_, _%_, _≤_, _<_}
-use native.Mathlib.Nat.{mod-lt, mod-self, mod-mod, zero-mod, add-mod-mod, mod-eq-of-lt, mod-eq-sub-mod, add-zero}
+use native.Mathlib.Nat.{zero-mod, mod-eq-of-lt, mod-eq-sub-mod, add-zero}
 use native.Mathlib.Omega.{arith}
 use lib.Dec.{ltb}
 use lib.IntN.{ℤ, pos, negsuc, natAbs, subℕ, _+ℤ_}
 use borrow.Author.Tests.{ltb-true, ltb-false, lt-ltb, le-ltb}
 use Rattle.field64.proofs.Modular.{add-both, cancel}
 use Rattle.doubles.specs.Doubles.{modP}
-use Rattle.doubles.proofs.Sense.{modP-negative}
+use Rattle.doubles.proofs.Sense.{modP-below}
+use Rattle.doubles.proofs.Parts.{plus, minus, modP-parts}
 use Rattle.correctness.proofs.Cut.{centredNumber}
-
--- a whole number is `plus` less `minus`
-abbrev pub plus : ℤ → ℕ
-plus (pos n) = n
-plus (negsuc n) = 0
-
-abbrev pub minus : ℤ → ℕ
-minus (pos n) = 0
-minus (negsuc n) = suc n
 
 sub-parts : (a b : ℕ) → plus (subℕ a b) + b ≡ minus (subℕ a b) + a
 sub-parts a b = go (ltb a b) refl
@@ -35,12 +27,6 @@ sum-parts (negsuc a) (pos b) = omega (arith, sub-parts b (suc a))
 sum-parts (negsuc a) (negsuc b) = omega arith
 
 module _ (p : ℕ) (positive : 0 < p) where
-  -- a number modulo p, with what was taken off put back
-  pub modP-parts : (z : ℤ) → (modP p z + minus z) % p ≡ plus z % p
-  unfolding modP
-  modP-parts (pos n) = rw (add-zero, mod-mod)
-  modP-parts (negsuc n) = modP-negative p positive n ∙ sym (zero-mod p)
-
   pub sum-parts-mod : (w W : ℕ) (z Z : ℤ) → (w + minus z) % p ≡ plus z % p → (W + minus Z) % p ≡ plus Z % p → ((w + W) + minus (z +ℤ Z)) % p ≡ plus (z +ℤ Z) % p
   sum-parts-mod w W z Z e f =
       let s = z +ℤ Z in
@@ -68,3 +54,8 @@ module _ (p : ℕ) (positive : 0 < p) where
       let q : y ≡ p - suc n = back y (suc n) l (omega arith) (omega arith) (e ∙ zero-mod p) in
       let k : p - (p - suc n) ≡ suc n = omega arith in
       rw (q, lt-ltb ((p - 1) / 2) (p - suc n) (omega arith), k)
+
+  -- and it is Z modulo p, whatever Z is
+  pub same-residue : (y : ℕ) (Z : ℤ) → y < p → (y + minus Z) % p ≡ plus Z % p → y ≡ modP p Z
+  same-residue y Z l e =
+      sym (mod-eq-of-lt l) ∙ cancel p positive y (modP p Z) (minus Z) (e ∙ sym (modP-parts p positive Z)) ∙ mod-eq-of-lt (modP-below p positive Z)

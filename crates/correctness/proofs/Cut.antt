@@ -21,10 +21,10 @@ pub record Cut (p d : ℕ) : Type 0 where
   pub adds : addRows p left right ≡ whole
   pub number : ℕ → ℤ
 
--- the shares of a list of reports
-abbrev pub shares : {p d : ℕ} → List (Cut p d) → List (List ℕ)
-shares [] = []
-shares (c ∷ cs) = c .left ∷ c .right ∷ shares cs
+-- the shares of a list of reports, as rows of words
+abbrev pub shares : (words : List ℕ → List ℕ) {p d : ℕ} → List (Cut p d) → List (List ℕ)
+shares words [] = []
+shares words (c ∷ cs) = words (c .left) ∷ words (c .right) ∷ shares words cs
 
 abbrev pub wholes : {p d : ℕ} → List (Cut p d) → List (List ℕ)
 wholes cs = map (λ c. c .whole) cs

@@ -8,10 +8,11 @@ use lib.IntN.{pos, negsuc, _+ℤ_}
 use lib.ListN.{getD, length, take, replicate}
 use lib.Dec.{lit≤}
 use lib.Ieee.{ofBits, round, ofInt, div}
-use Rattle.correctness.proofs.Correctness.{correctness-64}
+use Rattle.correctness.proofs.Correctness.{correctness-64, decodable-64}
 use Rattle.correctness.proofs.Table.{table}
 use Rattle.correctness.specs.Correctness.{Report, TestsAdd, CircuitsZero}
 use Rattle.correctness.specs.Table.{param, narrow, none, one, two, three, large}
+use Rattle.pine.proofs.Words.{words-64}
 use Rattle.rows.proofs.Elements.{elements-below}
 use Rattle.field64.specs.Field.{p64}
 use Rattle.doubles.specs.Doubles.{modP, floorDiv, floorOf, plusZero}
@@ -133,7 +134,7 @@ joined-tallies =
 -- by the theorem: element 0 of the two aggregates reads as -3 + -3
 reads-0 : centredNumber p64 (getD (addRows p64 (run Field64 start calls 0 .row) (run Field64 start calls 1 .row)) 0 0) ≡ negsuc 5
 unfolding sumℤ modP
-reads-0 = aggregation Field64 (omega arith) 2 start begun calls (second-cut ∷ first-cut ∷ []) .reads 0 1 joined-tallies 0 (omega arith) (refl, (refl, tt)) (omega arith)
+reads-0 = aggregation Field64 words-64 (omega arith) 2 start begun calls (second-cut ∷ first-cut ∷ []) .reads 0 1 joined-tallies 0 (omega arith) (refl, (refl, tt)) (omega arith)
 
 seven : _≡_ {A = ℕ} 7 0 → ⊥
 seven e = omega arith
@@ -143,7 +144,7 @@ undone : run Field64 start (Call.accumulate 0 (with-dimension 2) (a-row 8 9) ∷
     ≡ run Field64 start (Call.merge 0 (with-dimension 2) 7 ∷ Call.empty 0 (with-dimension 3) ∷ Call.empty 1 (with-dimension 2) ∷ Call.merge 1 (with-dimension 2) 0 ∷ [])
 unfolding emptyOf emptyAnswer accumulateOf accumulateAnswer paramAnswer paramRules
 undone =
-    withdrawal .calls Field64 (omega arith) 2 start begun 0 [] (Call.merge 0 (with-dimension 2) 7 ∷ Call.empty 0 (with-dimension 3) ∷ Call.empty 1 (with-dimension 2) ∷ []) (Call.merge 1 (with-dimension 2) 0 ∷ [])
+    withdrawal .calls Field64 (omega arith) words-64 2 start begun 0 [] (Call.merge 0 (with-dimension 2) 7 ∷ Call.empty 0 (with-dimension 3) ∷ Call.empty 1 (with-dimension 2) ∷ []) (Call.merge 1 (with-dimension 2) 0 ∷ [])
     (λ _ e. omega arith, (λ q. absurd (seven (ap (λ (a : Answer). a .number) q)), (λ _ e. omega arith, tt))) .withdrawn (with-dimension 2) (with-dimension 2) (a-row 8 9) refl refl
 
 -- an aggregate added, and an equal row taken out as a share, after a call on that other aggregate: by the law, the rows are as if neither had been made
@@ -152,7 +153,7 @@ row-undone : (n : ℕ)
     ≡ run Field64 start (Call.accumulate 7 (with-dimension 2) (a-row 8 9) ∷ Call.accumulate 7 (with-dimension 2) (a-row 1 2) ∷ []) n .row
 unfolding run step accumulateOf accumulateAnswer paramAnswer paramRules
 row-undone =
-    withdrawal .calls Field64 (omega arith) 2 start begun 0 (Call.accumulate 7 (with-dimension 2) (a-row 8 9) ∷ []) (Call.accumulate 7 (with-dimension 2) (a-row 1 2) ∷ []) [] (tt, tt)
+    withdrawal .calls Field64 (omega arith) words-64 2 start begun 0 (Call.accumulate 7 (with-dimension 2) (a-row 8 9) ∷ []) (Call.accumulate 7 (with-dimension 2) (a-row 1 2) ∷ []) [] (tt, tt)
     .row-withdrawn (Call.merge 0 (with-dimension 2) 7) (Call.subtract 0 (with-dimension 2) (a-row 8 9)) (a-row 8 9) (refl, refl, refl) (refl, refl, refl)
 
 -- ---- a report, cut in two: the first row of the table of worked examples
@@ -214,7 +215,8 @@ joined-report =
 decoded-sum : getD (unshardOf Field64 inputs (run Field64 empties report-calls 0 .row) (run Field64 empties report-calls 1 .row) (large ∷ large ∷ large ∷ large ∷ []) .row) 0 plusZero ≡ one
 unfolding paramAnswer paramRules sumℤ floorOf floorDiv ofBits ofInt div round a-report
 decoded-sum =
-    correctness-64 inputs refl empties empties-begun report-calls (a-report ∷ []) .decoded 0 1 joined-report (large ∷ large ∷ large ∷ large ∷ []) refl .at 0 (omega arith) (lit≤ tt)
+    correctness-64 inputs refl empties empties-begun report-calls (a-report ∷ [])
+    .decoded 0 1 joined-report (decodable-64 inputs (a-report ∷ [])) (large ∷ large ∷ large ∷ large ∷ []) refl .at 0 (omega arith) (lit≤ tt)
 
 -- ---- a report in which two tests miss, cut in two
 

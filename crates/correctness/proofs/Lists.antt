@@ -3,11 +3,11 @@
 use mathlib.Core.Path.{_≡_, refl, sym, ap, _∙_}
 use mathlib.Core.Logic.{∥∥₁-elim}
 use mathlib.Core.Bool.{Bool, true, false, cond}
-use mathlib.Core.List.{List, [], _∷_, _++_, Perm, List·Permᴰ, List·Permᴰ·nil, List·Permᴰ·cons, List·Permᴰ·swap, List·Permᴰ·trans}
+use mathlib.Core.List.{List, [], _∷_, _++_, map, Perm, List·Permᴰ, List·Permᴰ·nil, List·Permᴰ·cons, List·Permᴰ·swap, List·Permᴰ·trans}
 use Prim.Native.Nat.{ℕ, _+_, _<_}
 use native.Mathlib.Nat.{ℕ-set}
 use native.Mathlib.Omega.{arith}
-use lib.ListN.{length, getD}
+use lib.ListN.{length}
 use lib.IntN.{ℤ, pos, _+ℤ_}
 use lib.Dec.{eqb}
 use lib.Ieee.{Float}
@@ -15,11 +15,12 @@ use Rattle.rules.specs.Rules.{accepted}
 use Rattle.pine.specs.declared.PineParam.{PineParam}
 use Rattle.field64.specs.Sums.{total}
 use Rattle.pine.specs.Param.{Field, paramAnswer}
+use Rattle.pine.specs.Words.{WordLaws}
 use Rattle.vdaf.specs.Aggregates.{emptyOf, accumulateOf, unshardOf}
 use Rattle.correctness.specs.Tally.{eqRow, count, Tally, once, Aggregates, Call, step, run, Begun, Each, Joined}
-use Rattle.correctness.specs.Correctness.{Report, sharesOf, Decodes, Correctness}
-use Rattle.correctness.proofs.Counts.{column, one-if, count-append}
-use Rattle.correctness.proofs.Tally.{of-rows, backed}
+use Rattle.correctness.specs.Correctness.{Report, sharesOf, Decodable, Decodes, Correctness}
+use Rattle.correctness.proofs.Counts.{one-if, count-append}
+use Rattle.correctness.proofs.Tally.{at, of-rows, backed}
 
 -- ---- counts of a permuted list
 
@@ -101,8 +102,8 @@ module _ (F : Field) (d : ℕ) (s : Aggregates) (b : (k : ℕ) → Begun F d (s 
   counts = counting F calls additive s (λ n. []) (λ n r. b n .none r)
 
   -- each element of an aggregate is the sum of that element over its list
-  pub list-sums : 0 < F .p → (k j : ℕ) → j < d → getD (run F s calls k .row) j 0 ≡ total (F .p) (column j (listsAfter F s calls k))
-  list-sums positive k j h = of-rows (F .p) d positive (run F s calls k) (backed F d positive s b calls k) (listsAfter F s calls k) (counts k) j h
+  pub list-sums : WordLaws F → 0 < F .p → (k j : ℕ) → j < d → at F j (run F s calls k .row) ≡ total (F .p) (map (at F j) (listsAfter F s calls k))
+  list-sums laws positive k j h = of-rows F laws d positive (run F s calls k) (backed F laws d positive s b calls k .backing) (listsAfter F s calls k) (counts k) j h
 
   -- where two lists joined are, in some order, certain rows, so are the two tallies
   pub lists-joined : (k m : ℕ) (rows : List (List ℕ)) → Perm (listsAfter F s calls k ++ listsAfter F s calls m) rows → Joined (run F s calls k .tally) (run F s calls m .tally) rows
@@ -110,6 +111,6 @@ module _ (F : Field) (d : ℕ) (s : Aggregates) (b : (k : ℕ) → Begun F d (s 
 
 -- so the doubles, stated by lists of rows, follow from `Correctness`
 pub as-before : (F : Field) → Correctness F → (i : PineParam) → paramAnswer F i ≡ accepted → (s : Aggregates) → ((k : ℕ) → Begun F (i .dimension) (s k)) → (calls : List Call) → Each Additive calls → (reports : List (Report F i))
-    → (k m : ℕ) → Perm (listsAfter F s calls k ++ listsAfter F s calls m) (sharesOf F i reports) → (found : List Float) → length found ≡ i .dimension
+    → (k m : ℕ) → Perm (listsAfter F s calls k ++ listsAfter F s calls m) (sharesOf F i reports) → Decodable F i reports → (found : List Float) → length found ≡ i .dimension
     → Decodes F i reports (unshardOf F i (run F s calls k .row) (run F s calls m .row) found)
 as-before F holds i ok s b calls additive reports k m q = holds i ok s b calls reports .decoded k m (lists-joined F (i .dimension) s b calls additive k m _ q)

@@ -7,7 +7,7 @@ use lib.ListN.{take, drop, replicate}
 use lib.Ieee.{Float, binary64, ofBits}
 use Rattle.rules.specs.Rules.{answer, accepted}
 use Rattle.field64.specs.Field.{p64}
-use Rattle.doubles.specs.Doubles.{floorLimit64, coordinateOf, decodedOf}
+use Rattle.doubles.specs.Doubles.{floorLimit64, sizeLimit64, coordinateOf, decodedOf}
 use Rattle.doubles.specs.declared.Coordinate.{Coordinate}
 use Rattle.doubles.specs.declared.Decoded.{Decoded}
 use Rattle.field64.specs.Sums.{number}
@@ -99,13 +99,13 @@ pub record Table : Type 0 where
   pub bottom-at : (f : ℕ) → f ≤ 30 → coordinateOf p64 floorLimit64 (double (0xc3df_ffff_ffe0_0000 - f * 2 ^ 52)) f ≡ element 9223372034707292161
   pub bottom-next-at : (f : ℕ) → f ≤ 30 → coordinateOf p64 floorLimit64 (double (0xc3df_ffff_ffe0_0001 - f * 2 ^ 52)) f ≡ beyond
   -- decode p - 1, f 2: -0.25
-  pub last : decodedOf p64 (p64 - 1) 2 ≡ value 0xbfd0_0000_0000_0000
+  pub last : decodedOf p64 sizeLimit64 (p64 - 1) 2 ≡ value 0xbfd0_0000_0000_0000
   -- decode (p - 1) / 2 and (p + 1) / 2, f 0: 9223372034707292160.0 and its negative
-  pub middle : decodedOf p64 ((p64 - 1) / 2) 0 ≡ value 0x43df_ffff_ffe0_0000
-  pub middle-1 : decodedOf p64 ((p64 + 1) / 2) 0 ≡ value 0xc3df_ffff_ffe0_0000
+  pub middle : decodedOf p64 sizeLimit64 ((p64 - 1) / 2) 0 ≡ value 0x43df_ffff_ffe0_0000
+  pub middle-1 : decodedOf p64 sizeLimit64 ((p64 + 1) / 2) 0 ≡ value 0xc3df_ffff_ffe0_0000
   -- decode 2 ^ 53 + 1 and 2 ^ 53 + 3, f 0: ties, to 9007199254740992.0 and 9007199254740996.0
-  pub tie-down : decodedOf p64 (2 ^ 53 + 1) 0 ≡ value 0x4340_0000_0000_0000
-  pub tie-up : decodedOf p64 (2 ^ 53 + 3) 0 ≡ value 0x4340_0000_0000_0002
+  pub tie-down : decodedOf p64 sizeLimit64 (2 ^ 53 + 1) 0 ≡ value 0x4340_0000_0000_0000
+  pub tie-up : decodedOf p64 sizeLimit64 (2 ^ 53 + 3) 0 ≡ value 0x4340_0000_0000_0002
   -- n 1, d 4, f 0, T 2, K 2, gradient 1 0 0 0, stream 0x03 0x00; the rows held sevens before
   pub short : encodeOf Field64 (param 1 4 2 2) (one ∷ none ∷ none ∷ none ∷ []) (3 ∷ 0 ∷ []) (replicate 18 7) (replicate 2 7)
       ≡ encodeOutcome accepted (1 ∷ 0 ∷ 0 ∷ 0 ∷ 1 ∷ 0 ∷ 0 ∷ 0 ∷ 0 ∷ 0 ∷ 1 ∷ 1 ∷ 0 ∷ 1 ∷ 1 ∷ 1 ∷ 0 ∷ 1 ∷ []) (1 ∷ (p64 - 1) ∷ [])

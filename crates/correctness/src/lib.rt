@@ -2,7 +2,7 @@
 // the check asks for their proofs.
 ghost use Rattle.pine.specs.Param.{Field64};
 ghost use Rattle.correctness.specs.Table.{Table};
-ghost use Rattle.correctness.specs.Correctness.{Correctness};
+ghost use Rattle.correctness.specs.Correctness.{Correctness, EveryDecodable};
 ghost use Rattle.correctness.specs.Withdrawal.{Withdrawal};
 
 // The worked examples (docs/PINE.md, "Worked rows").
@@ -14,6 +14,11 @@ pub fn worked_examples()
 // calls on aggregates and every list of reports, each cut in two in a way of its own.
 pub fn reports_and_aggregates()
     ensures { λ _. ⌜ Correctness Field64 ⌝ }
+{}
+
+// Over Field64 the sums of every list of reports can be decoded, as the main theorem asks of them.
+pub fn every_sum_decodable()
+    ensures { λ _. ⌜ EveryDecodable Field64 ⌝ }
 {}
 
 // The laws of adding and taking out, of rows over any modulus and of lists of calls over any field.

@@ -12,20 +12,17 @@ use borrow.Author.Tests.{eq-eqb, ne-eqb, eqb-true, leb-true, leb-false, lt-ltb, 
 use Rattle.rules.specs.declared.Answer.{Answer}
 use Rattle.rules.specs.Rules.{answer, accepted, first, inOrder}
 use Rattle.rules.proofs.Chain.{first-refused, first-passed, first-assoc, split, both, none, Passed, passed, accepts, accepted-whole, so}
-use Rattle.field64.specs.Field.{subMod}
+use Rattle.field64.specs.Field.{p64}
 use Rattle.pine.specs.declared.PineParam.{PineParam}
 use Rattle.pine.specs.declared.record.Pine.{Pine}
-use Rattle.pine.specs.Param.{Field, paramAnswer}
-use Rattle.pine.specs.Record.{sqNormBits, sqNormBound, wrTestBits, wrTestBound, bitCheckedLen, encodedInputLen, streamLen, pineOf}
+use Rattle.pine.specs.Param.{Field, Field64, paramAnswer}
+use Rattle.pine.specs.Record.{sqNormBound, bitCheckedLen, encodedInputLen, streamLen, pineOf}
 use Rattle.pine.proofs.Limits.{limits, param-accepted}
-use Rattle.rows.specs.Rows.{Below, rowRule, subRows}
+use Rattle.rows.specs.Rows.{subRows}
 use Rattle.rows.proofs.Lengths.{right-row, row-right}
-use Rattle.rows.proofs.Elements.{below-append, below-more}
-use Rattle.flp.specs.Bits.{bits}
-use Rattle.flp.specs.Encode.{elements, sqNorm, trueSqNorm, gradientLenRule, trueSqNormRule, sqNormRule, rangeRule, testBits, resultsOf, measurementOf, Encoded, encodeOutcome, encodeRules, encodeAnswer, encodeOf}
-use Rattle.flp.proofs.Bits.{bits-below}
-use Rattle.flp.proofs.Circuits.{test-bits-below}
+use Rattle.flp.specs.Encode.{elements, sqNorm, trueSqNorm, gradientLenRule, trueSqNormRule, sqNormRule, resultsOf, measurementOf, Encoded, encodeOutcome, encodeRules, encodeAnswer, encodeOf}
 use Rattle.flp.proofs.TrueNorm.{norm-mod}
+use Rattle.flp.proofs.Fresh.{encode-answer}
 use Rattle.measurement.specs.Parts.{Usable}
 use Rattle.gradient_rules.proofs.Searches.{all-usable}
 use Rattle.turboshake.specs.TurboShake.{Bytes}
@@ -65,18 +62,6 @@ more k m rules e f = ap inOrder (take-add k m rules) ∙ accepts (take k rules +
     joined : (front rest : List Answer) → Passed front → Passed rest → Passed (front ++ rest)
     joined [] rest p q = q
     joined (a ∷ front) rest p q = (p .0, joined front rest (p .1) q)
-
--- a measurement's elements are below p
-pub measurement-below : (p : ℕ) → 2 ≤ p → (i : PineParam) (s xs : List ℕ) → Below p xs → Below p (measurementOf p i s xs)
-unfolding measurementOf
-measurement-below p h i s xs f =
-    let q = sqNormBits i in
-    let v = sqNorm p xs in
-    let u = subMod p (sqNormBound i) v in
-    let ts = testBits p (wrTestBits i) (wrTestBound i) (i .«num_wr_successes») (resultsOf p i s xs) in
-    let tests : Below 2 ts = test-bits-below p (wrTestBits i) (wrTestBound i) (i .«num_wr_successes») (resultsOf p i s xs) in
-    let checked : Below 2 (bits q v ++ (bits q u ++ ts)) = below-append 2 (bits q v) (bits q u ++ ts) (bits-below q v) (below-append 2 (bits q u) ts (bits-below q u) tests) in
-    below-append p xs (bits q v ++ (bits q u ++ ts)) f (below-more 2 p h (bits q v ++ (bits q u ++ ts)) checked)
 
 module _ (F : Field) (i : PineParam) (g : List Float) (nonce seeds leader helper given : List ℕ) where
   abbrev rules : List Answer
@@ -215,56 +200,58 @@ module _ (F : Field) (i : PineParam) (g : List Float) (nonce seeds leader helper
       pub stream-whole : length wr ≡ 16 → Bytes wr → length (wrStreamOf F i g nonce seeds) ≡ streamLen (i .«num_wr_tests») (i .dimension)
       stream-whole l f = ap length (sym stream-of) ∙ stream-long (streamLen (i .«num_wr_tests») (i .dimension)) wr l f
 
-    -- what encoding has given on it
-    module _ (results : List ℕ) (rl : length results ≡ i .«num_wr_tests») (sl : length (wrStreamOf F i g nonce seeds) ≡ streamLen (i .«num_wr_tests») (i .dimension)) where
-      abbrev stream : List ℕ
-      stream = wrStreamOf F i g nonce seeds
+-- ---- what encoding has given, over Field64: an element is one word
 
-      -- its answer is the call's
-      same-answer : encodeAnswer F i g stream leader results ≡ inOrder rules
-      unfolding cutRules encodeRules
-      same-answer =
-          let h = passed (take 11 rules) (none met) in
-          let r = ready met-8 in
-          let m : inOrder (take 8 (encodeRules F i g stream leader results)) ≡ accepted =
-          accepts (take 8 (encodeRules F i g stream leader results)) (h .0, (none (right-row 2 _ _ sl), (none (right-row 3 _ _ (r .leader-long)), (none (right-row 4 _ _ rl), (h .1 .1 .1 .1 .1 .1 .0, (h .1 .1 .1 .1 .1 .1 .1 .0, (h .1 .1 .1 .1 .1 .1 .1 .1 .0, (h .1 .1 .1 .1 .1 .1 .1 .1 .1 .0, tt)))))))) in
-          others 8 (encodeRules F i g stream leader results) m ∙ sym (others 11 rules met)
+module _ (i : PineParam) (g : List Float) (nonce seeds leader helper given : List ℕ) (met : MetUpTo 11 Field64 i g nonce seeds leader helper given) where
+  abbrev all : List Answer
+  all = cutRules Field64 i g nonce seeds leader helper given
 
-      module _ (a : Answer) (m₁ r₁ : List ℕ) (call : encodeOutcome a m₁ r₁ ≡ encodeOf F i g stream leader results) where
-        answer-is : a ≡ encodeAnswer F i g stream leader results
+  abbrev ready-8 : Ready Field64 i g nonce seeds leader helper given (met-8 Field64 i g nonce seeds leader helper given met)
+  ready-8 = ready Field64 i g nonce seeds leader helper given (met-8 Field64 i g nonce seeds leader helper given met)
+
+  module _ (results : List ℕ) (rl : length results ≡ i .«num_wr_tests») (sl : length (wrStreamOf Field64 i g nonce seeds) ≡ streamLen (i .«num_wr_tests») (i .dimension)) where
+    abbrev stream : List ℕ
+    stream = wrStreamOf Field64 i g nonce seeds
+
+    -- its answer is the call's
+    same-answer : encodeAnswer Field64 i g stream leader results ≡ inOrder all
+    unfolding cutRules encodeRules
+    same-answer =
+        let h = passed (take 11 all) (none met) in
+        let m : inOrder (take 8 (encodeRules Field64 i g stream leader results)) ≡ accepted =
+        accepts (take 8 (encodeRules Field64 i g stream leader results)) (h .0, (none (right-row 2 _ _ sl), (none (right-row 3 _ _ (ready-8 .leader-long)), (none (right-row 4 _ _ rl), (h .1 .1 .1 .1 .1 .1 .0, (h .1 .1 .1 .1 .1 .1 .1 .0, (h .1 .1 .1 .1 .1 .1 .1 .1 .0, (h .1 .1 .1 .1 .1 .1 .1 .1 .1 .0, tt)))))))) in
+        others 8 (encodeRules Field64 i g stream leader results) m ∙ sym (others 11 all met)
+
+    module _ (a : Answer) (m₁ r₁ : List ℕ) (call : encodeOutcome a m₁ r₁ ≡ encodeOf Field64 i g stream leader results) where
+      answer-is : a ≡ encodeAnswer Field64 i g stream leader results
+      answer-is = ap (λ (o : Encoded). o .answer) call ∙ encode-answer Field64 i g stream leader results
+
+      whole-is : inOrder all ≡ a
+      whole-is = sym (answer-is ∙ same-answer)
+
+      -- the results' row was the front of the helper's
+      pub tests-refused : (k : ℕ) → results ≡ take k helper → (a .number ≡ 0 → ⊥) → cutOutcome a m₁ (r₁ ++ drop k helper) given ≡ cutOf Field64 i g nonce seeds leader helper given
+      unfolding encodeOf
+      tests-refused k front h =
+          let e = encodeAnswer Field64 i g stream leader results in
+          let out : encodeOf Field64 i g stream leader results ≡ encodeOutcome e leader results = rw (ne-eqb (e .number) 0 (λ z. h (ap (λ (b : Answer). b .number) answer-is ∙ z))) in
+          let kept : m₁ ≡ leader = ap (λ (o : Encoded). o .measurement) (call ∙ out) in
+          let whole : r₁ ++ drop k helper ≡ helper = ap (λ (r : List ℕ). r ++ drop k helper) (ap (λ (o : Encoded). o .results) (call ∙ out) ∙ front) ∙ take-append-drop k helper in
+          (λ j. cutOutcome a (kept j) (whole j) given) ∙ refused Field64 i g nonce seeds leader helper given a whole-is h
+
+      module _ (z : a .number ≡ 0) where
+        pub measured : m₁ ≡ measurementOf p64 i stream (elements p64 (i .«frac_bits») g)
         unfolding encodeOf
-        answer-is = ap (λ (o : Encoded). o .answer) call ∙ go (eqb (encodeAnswer F i g stream leader results .number) 0)
-          where
-            go : (t : Bool) → cond t (encodeOutcome (encodeAnswer F i g stream leader results) (measurementOf (F .p) i stream xs) (resultsOf (F .p) i stream xs)) (encodeOutcome (encodeAnswer F i g stream leader results) leader results) .answer ≡ encodeAnswer F i g stream leader results
-            go true = refl
-            go false = refl
+        measured =
+            let e = encodeAnswer Field64 i g stream leader results in
+            let out : encodeOf Field64 i g stream leader results ≡ encodeOutcome e (measurementOf p64 i stream (elements p64 (i .«frac_bits») g)) (resultsOf p64 i stream (elements p64 (i .«frac_bits») g)) = rw (eq-eqb (e .number) 0 (ap (λ (b : Answer). b .number) (sym answer-is) ∙ z)) in
+            ap (λ (o : Encoded). o .measurement) (call ∙ out)
 
-        whole-is : inOrder rules ≡ a
-        whole-is = sym (answer-is ∙ same-answer)
-
-        -- the results' row was the front of the helper's
-        pub tests-refused : (k : ℕ) → results ≡ take k helper → (a .number ≡ 0 → ⊥) → cutOutcome a m₁ (r₁ ++ drop k helper) given ≡ cutOf F i g nonce seeds leader helper given
-        unfolding encodeOf
-        tests-refused k front h =
-            let e = encodeAnswer F i g stream leader results in
-            let out : encodeOf F i g stream leader results ≡ encodeOutcome e leader results = rw (ne-eqb (e .number) 0 (λ z. h (ap (λ (b : Answer). b .number) answer-is ∙ z))) in
-            let kept : m₁ ≡ leader = ap (λ (o : Encoded). o .measurement) (call ∙ out) in
-            let whole : r₁ ++ drop k helper ≡ helper = ap (λ (r : List ℕ). r ++ drop k helper) (ap (λ (o : Encoded). o .results) (call ∙ out) ∙ front) ∙ take-append-drop k helper in
-            (λ j. cutOutcome a (kept j) (whole j) given) ∙ refused a whole-is h
-
-        module _ (z : a .number ≡ 0) where
-          pub measured : m₁ ≡ measurementOf (F .p) i stream xs
-          unfolding encodeOf
-          measured =
-              let e = encodeAnswer F i g stream leader results in
-              let out : encodeOf F i g stream leader results ≡ encodeOutcome e (measurementOf (F .p) i stream xs) (resultsOf (F .p) i stream xs) = rw (eq-eqb (e .number) 0 (ap (λ (b : Answer). b .number) (sym answer-is) ∙ z)) in
-              ap (λ (o : Encoded). o .measurement) (call ∙ out)
-
-          pub accepted-with : (wr l h v : List ℕ) → wr ≡ wrSeed F i g nonce seeds → h ≡ sampled (F .p) (length helper) (helperStream (length helper) seeds) → l ≡ subRows (F .p) m₁ h → v ≡ wr ++ vfJointRand nonce seeds l h
-              → cutOutcome a l h v ≡ cutOf F i g nonce seeds leader helper given
-          unfolding cutOf leaderShare helperShare vfSeed
-          accepted-with wr l h v ew eh el ev =
-              let helper-is : h ≡ helperShare F i seeds = eh ∙ ap (λ (k : ℕ). sampled (F .p) k (helperStream k seeds)) (ready met-8 .helper-long) in
-              let leader-is : l ≡ leaderShare F i g nonce seeds = el ∙ (λ j. subRows (F .p) (measured j) (helper-is j)) in
-              let given-is : v ≡ wrSeed F i g nonce seeds ++ vfSeed F i g nonce seeds = ev ∙ (λ j. ew j ++ vfJointRand nonce seeds (leader-is j) (helper-is j)) in
-              rw (whole-is, eq-eqb (a .number) 0 z) (λ j. cutOutcome a (leader-is j) (helper-is j) (given-is j))
+        pub accepted-with : (wr l h v : List ℕ) → wr ≡ wrSeed Field64 i g nonce seeds → h ≡ sampled p64 (length helper) (helperStream (length helper) seeds) → l ≡ subRows p64 m₁ h → v ≡ wr ++ vfJointRand nonce seeds l h
+            → cutOutcome a l h v ≡ cutOf Field64 i g nonce seeds leader helper given
+        unfolding cutOf leaderShare helperShare vfSeed
+        accepted-with wr l h v ew eh el ev =
+            let helper-is : h ≡ helperShare Field64 i seeds = eh ∙ ap (λ (k : ℕ). sampled p64 k (helperStream k seeds)) (ready-8 .helper-long) in
+            let leader-is : l ≡ leaderShare Field64 i g nonce seeds = el ∙ (λ j. subRows p64 (measured j) (helper-is j)) in
+            let given-is : v ≡ wrSeed Field64 i g nonce seeds ++ vfSeed Field64 i g nonce seeds = ev ∙ (λ j. ew j ++ vfJointRand nonce seeds (leader-is j) (helper-is j)) in
+            rw (whole-is, eq-eqb (a .number) 0 z) (λ j. cutOutcome a (leader-is j) (helper-is j) (given-is j))

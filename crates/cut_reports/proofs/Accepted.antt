@@ -15,7 +15,9 @@ use Rattle.rules.proofs.Chain.{none, Passed, passed, accepts, so}
 use Rattle.field64.specs.Field.{subMod}
 use Rattle.pine.specs.declared.PineParam.{PineParam}
 use Rattle.pine.specs.Param.{Field, Field64}
+use Rattle.pine.specs.Words.{WordLaws}
 use Rattle.pine.specs.Record.{sqNormBits, sqNormBound, wrTestBits, wrTestBound, bitCheckedLen, encodedInputLen, bytesPerTest, streamLen}
+use Rattle.pine.proofs.Words.{words-64, words-long}
 use Rattle.rows.specs.Rows.{Below, addRows, subRows}
 use Rattle.rows.proofs.Lengths.{right-row}
 use Rattle.rows.proofs.ByElement.{length-by, take-by}
@@ -36,7 +38,7 @@ use Rattle.shares.specs.Shares.{measShareSeed₁, wrJointRand, vfJointRand, hel
 use Rattle.shares.proofs.Seeds.{rule-met, enough, sampled-long, sampled-below}
 use Rattle.wr_parts.proofs.Front.{front-long}
 use Rattle.cut.specs.Cut.{wrStreamOf, leaderShare, vfSeed, Cut, cutOutcome, cutRules, cutAnswer, cutOf}
-use Rattle.cut.proofs.Cutting.{measurement-below}
+use Rattle.flp.proofs.Encoded.{measurement-below}
 use Rattle.correctness.specs.Correctness.{Report}
 use Rattle.cut_reports.specs.CutReports.{CutReport, CutReports}
 
@@ -81,7 +83,7 @@ module _ (F : Field) (i : PineParam) (g : List Float) (s : List ℕ) (long : len
   pub measurement-front : take (gradientAndNormLen i) (measurementOf (F .p) i s ys) ≡ gradientAndNorm F i g
   measurement-front = ap (take (gradientAndNormLen i)) parts ∙ take-at (gradientAndNorm F i g) tests (gradientAndNormLen i) front-of
 
-module _ (F : Field) (big : 1 < F .p) (i : PineParam) (g : List Float) (nonce seeds leader helper given l h v : List ℕ) (call : cutOf F i g nonce seeds leader helper given ≡ cutOutcome accepted l h v) where
+module _ (F : Field) (laws : WordLaws F) (big : 1 < F .p) (i : PineParam) (g : List Float) (nonce seeds leader helper given l h v : List ℕ) (call : cutOf F i g nonce seeds leader helper given ≡ cutOutcome accepted l h v) where
   abbrev rules : List Answer
   rules = cutRules F i g nonce seeds leader helper given
 
@@ -148,13 +150,23 @@ module _ (F : Field) (big : 1 < F .p) (i : PineParam) (g : List Float) (nonce se
 
   -- ---- encoding accepts
 
-  encoded : encodeAnswer F i g stream (replicate n 0) (replicate T 0) ≡ accepted
+  -- into rows of zeros
+  abbrev found : List ℕ
+  found = F .words (replicate n 0)
+
+  abbrev found-results : List ℕ
+  found-results = F .words (replicate T 0)
+
+  zeros-long : (k : ℕ) → length (F .words (replicate k 0)) ≡ F .wordsIn k
+  zeros-long k = words-long F laws (replicate k 0) k (length-replicate {A = ℕ} k 0)
+
+  encoded : encodeAnswer F i g stream found found-results ≡ accepted
   unfolding cutRules encodeRules
   encoded =
-      accepts (encodeRules F i g stream (replicate n 0) (replicate T 0))
-      (met .0, (none (right-row 2 _ _ whole-stream), (none (right-row 3 _ _ (length-replicate n 0)), (none (right-row 4 _ _ (length-replicate T 0)), (met .1 .1 .1 .1 .1 .1 .0, (met .1 .1 .1 .1 .1 .1 .1 .0, (met .1 .1 .1 .1 .1 .1 .1 .1 .0, (met .1 .1 .1 .1 .1 .1 .1 .1 .1 .0, (met .1 .1 .1 .1 .1 .1 .1 .1 .1 .1 .1 .0, tt)))))))))
+      accepts (encodeRules F i g stream found found-results)
+      (met .0, (none (right-row 2 _ _ whole-stream), (none (right-row 3 _ _ (zeros-long n)), (none (right-row 4 _ _ (zeros-long T)), (met .1 .1 .1 .1 .1 .1 .0, (met .1 .1 .1 .1 .1 .1 .1 .0, (met .1 .1 .1 .1 .1 .1 .1 .1 .0, (met .1 .1 .1 .1 .1 .1 .1 .1 .1 .0, (met .1 .1 .1 .1 .1 .1 .1 .1 .1 .1 .1 .0, tt)))))))))
 
-  encodes : encodeOf F i g stream (replicate n 0) (replicate T 0) ≡ encodeOutcome accepted m (resultsOf (F .p) i stream xs)
+  encodes : encodeOf F i g stream found found-results ≡ encodeOutcome accepted (F .words m) (F .words (resultsOf (F .p) i stream xs))
   unfolding encodeOf
   encodes = rw encoded
 
@@ -192,20 +204,24 @@ module _ (F : Field) (big : 1 < F .p) (i : PineParam) (g : List Float) (nonce se
   unfolding leaderShare
   adds = add-undoes (F .p) positive m (helperShare F i seeds) (m-long ∙ sym helper-long) m-below helper-below
 
+  -- the measurement's elements, read back from its words
+  m-read : F .elements (F .words m) ≡ m
+  m-read = laws .read-back m m-below
+
   report : Report F i
   report = record {
     gradient = g;
     stream = stream;
-    found-measurement = replicate n 0;
-    found-results = replicate T 0;
-    measurement = m;
-    results = resultsOf (F .p) i stream xs;
+    found-measurement = found;
+    found-results = found-results;
+    measurement = F .words m;
+    results = F .words (resultsOf (F .p) i stream xs);
     call = encodes;
     left = l;
     right = h;
-    left-row = record { long = ap length leader-is ∙ leader-long ∙ sym m-long; below = subst (Below (F .p)) (sym leader-is) leader-below };
-    right-row = record { long = ap length helper-is ∙ helper-long ∙ sym m-long; below = subst (Below (F .p)) (sym helper-is) helper-below };
-    adds = ap₂ (addRows (F .p)) leader-is helper-is ∙ adds;
+    left-row = record { long = ap length leader-is ∙ leader-long ∙ sym (ap length m-read ∙ m-long); below = subst (Below (F .p)) (sym leader-is) leader-below };
+    right-row = record { long = ap length helper-is ∙ helper-long ∙ sym (ap length m-read ∙ m-long); below = subst (Below (F .p)) (sym helper-is) helper-below };
+    adds = ap₂ (addRows (F .p)) leader-is helper-is ∙ adds ∙ sym m-read;
   }
 
   -- ---- the seeds
@@ -258,4 +274,4 @@ module _ (F : Field) (big : 1 < F .p) (i : PineParam) (g : List Float) (nonce se
   }
 
 pub cut-reports-64 : CutReports Field64
-cut-reports-64 i g nonce seeds leader helper given l h v call = cut-report Field64 (lit< tt) i g nonce seeds leader helper given l h v call
+cut-reports-64 i g nonce seeds leader helper given l h v call = cut-report Field64 words-64 (lit< tt) i g nonce seeds leader helper given l h v call

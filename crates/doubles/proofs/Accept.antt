@@ -9,13 +9,12 @@ use lib.Dec.{T, ltb, eqb, ltb→lt, lt→ltb, eqb→eq}
 use lib.Ieee.{Float, nan, inf, fin, binary64, up, down, neg, mul, lt, eq, fits}
 use lib.Ieee.Bits.{is-true}
 use lib.Ieee.Fits.{up-pos, and-l}
-use borrow.Author.Tests.{eq-eqb, ne-eqb, le-ltb, not-true}
+use borrow.Author.Tests.{eq-eqb, ne-eqb, le-ltb, not-true, not-false}
 use Rattle.rules.specs.declared.Answer.{Answer}
 use Rattle.rules.specs.Rules.{answer, accepted, refuse, first}
 use Rattle.rules.proofs.Chain.{both, not-so}
-use Rattle.field64.specs.Field.{p64}
-use Rattle.doubles.specs.Doubles.{beyond, floorLimit64, unusable, floorOf, coordinateRule, element, coordinate, encoded, coordinateOf, power}
-use Rattle.doubles.specs.Steps.{sizeOf, normalSize, small, floorMod, within}
+use Rattle.doubles.specs.Doubles.{beyond, modP, unusable, floorOf, coordinateRule, element, coordinate, encoded, coordinateOf, power}
+use Rattle.doubles.specs.Steps.{sizeOf, normalSize, small, floorAt, floorMod, withinLimit}
 use Rattle.doubles.proofs.Laws.{product-within, product-floor}
 
 abbrev usable : Float → Bool
@@ -122,11 +121,22 @@ usable-other x h = go (eq x (fin false 0 (pos 0))) refl
     go false e = sym h ∙ by-size x (lt x (fin false 0 (pos 0))) false refl e refl
 
 -- ---- rules 8 and 17, by the product with the scale
-pub usable-within : (x : Float) (f : ℕ) → T (fits binary64 x) → unusable x ≡ false → within (mul binary64 x (power f)) ≡ not (beyond floorLimit64 (floorOf x f))
+pub usable-within : (l : ℕ) → l < 2 ^ 64 → (x : Float) (f : ℕ) → T (fits binary64 x) → unusable x ≡ false → withinLimit l (mul binary64 x (power f)) ≡ not (beyond l (floorOf x f))
 unfolding unusable
-usable-within nan f t h = absurd (true≢false h)
-usable-within (inf s) f t h = absurd (true≢false h)
-usable-within (fin s m e) f t h = product-within s m e f t
+usable-within l L nan f t h = absurd (true≢false h)
+usable-within l L (inf s) f t h = absurd (true≢false h)
+usable-within l L (fin s m e) f t h = product-within l L s m e f t
+
+-- what the two tests say of x
+pub usable-is : (x : Float) (t : Bool) → t ≡ not (unusable x) → not t ≡ false → unusable x ≡ false
+usable-is x t e h = not-true _ (sym e ∙ not-false t h)
+
+pub limit-is : (l : ℕ) → l < 2 ^ 64 → (x scale : Float) (f : ℕ) → T (fits binary64 x) → scale ≡ power f → unusable x ≡ false → (t : Bool) → t ≡ withinLimit l (mul binary64 x scale) → not t ≡ beyond l (floorOf x f)
+limit-is l L x scale f t s u b e = ap not (e ∙ ap (λ (z : Float). withinLimit l (mul binary64 x z)) s ∙ usable-within l L x f t u) ∙ not-not _
+  where
+    not-not : (b : Bool) → not (not b) ≡ b
+    not-not true = refl
+    not-not false = refl
 
 -- the same by fewer tests: a product within the limit is that of a finite double
 finite-size : (s : Bool) (m : ℕ) (e : ℤ) → lt (sizeOf (fin s m e)) (inf false) ≡ true
@@ -159,24 +169,28 @@ pub large-not-small : (x : Float) → lt (sizeOf x) (fin false 1 (negsuc 1021)) 
 unfolding small
 large-not-small x h = ap (λ (t : Bool). t && not (eq x (fin false 0 (pos 0)))) h
 
-pub usable-unless-small : (x : Float) (f : ℕ) → small x ≡ false → within (mul binary64 x (power f)) ≡ true → unusable x ≡ false
-usable-unless-small nan f h g = absurd (false≢true (unfold mul within in g))
-usable-unless-small (inf s) f h g = absurd (false≢true (unfold mul within in g))
-usable-unless-small (fin s m e) f h g = not-small (fin s m e) h (finite-size s m e)
+usable-unless-small : (l : ℕ) (x : Float) (f : ℕ) → small x ≡ false → withinLimit l (mul binary64 x (power f)) ≡ true → unusable x ≡ false
+usable-unless-small l nan f h g = absurd (false≢true (unfold mul withinLimit in g))
+usable-unless-small l (inf s) f h g = absurd (false≢true (unfold mul withinLimit in g))
+usable-unless-small l (fin s m e) f h g = not-small (fin s m e) h (finite-size s m e)
 
 -- a coordinate that neither refuses
-pub record Taken (x : Float) (f : ℕ) : Type 0 where
+pub record Taken (l : ℕ) (x : Float) (f : ℕ) : Type 0 where
   pub usable : unusable x ≡ false
-  pub near : beyond floorLimit64 (floorOf x f) ≡ false
+  pub near : beyond l (floorOf x f) ≡ false
 
-pub taken : (x : Float) (f : ℕ) → coordinateRule floorLimit64 x f .number ≡ 0 → Taken x f
-taken x f h = let g = both _ _ h in record { usable = not-so _ 7 0 (g .0); near = not-so _ 16 0 (g .1) }
+pub taken : (l : ℕ) (x : Float) (f : ℕ) → coordinateRule l x f .number ≡ 0 → Taken l x f
+taken l x f h = let g = both _ _ h in record { usable = not-so _ 7 0 (g .0); near = not-so _ 16 0 (g .1) }
 
--- the product's floor is its element's
-pub product-is-element : (x : Float) (f : ℕ) → T (fits binary64 x) → Taken x f → floorMod p64 (mul binary64 x (power f)) ≡ element p64 x f
-product-is-element nan f t h = absurd (true≢false (unfold unusable in h .usable))
-product-is-element (inf s) f t h = absurd (true≢false (unfold unusable in h .usable))
-product-is-element (fin s m e) f t h = product-floor s m e f t (h .near)
+-- the product's floor is its own
+pub product-floor-is : (l : ℕ) → l < 2 ^ 64 → (x : Float) (f : ℕ) → T (fits binary64 x) → Taken l x f → floorAt (mul binary64 x (power f)) ≡ floorOf x f
+product-floor-is l L nan f t h = absurd (true≢false (unfold unusable in h .usable))
+product-floor-is l L (inf s) f t h = absurd (true≢false (unfold unusable in h .usable))
+product-floor-is l L (fin s m e) f t h = product-floor l L s m e f t (h .near)
+
+pub product-is-element : (p l : ℕ) → l < 2 ^ 64 → (x : Float) (f : ℕ) → T (fits binary64 x) → Taken l x f → floorMod p (mul binary64 x (power f)) ≡ element p x f
+unfolding floorMod element
+product-is-element p l L x f t h = ap (modP p) (product-floor-is l L x f t h)
 
 -- ---- the answers
 module _ (l : ℕ) (x : Float) (f : ℕ) where
@@ -188,6 +202,12 @@ module _ (l : ℕ) (x : Float) (f : ℕ) where
 
   pub answer-none : unusable x ≡ false → beyond l (floorOf x f) ≡ false → accepted ≡ coordinateRule l x f
   answer-none h g = rw (h, g)
+
+  pub not-refused : l < 2 ^ 64 → (scale : Float) → T (fits binary64 x) → scale ≡ power f → small x ≡ false → withinLimit l (mul binary64 x scale) ≡ true → coordinateRule l x f .number ≡ 0
+  not-refused L scale t s h g =
+      let w : withinLimit l (mul binary64 x (power f)) ≡ true = ap (λ (z : Float). withinLimit l (mul binary64 x z)) (sym s) ∙ g in
+      let u : unusable x ≡ false = usable-unless-small l x f h w in
+      ap (λ (a : Answer). a .number) (sym (answer-none u (not-true _ (sym (usable-within l L x f t u) ∙ w))))
 
   module _ (p : ℕ) (a : Answer) (e : a ≡ coordinateRule l x f) where
     pub encoded-refused : (a .number ≡ 0 → ⊥) → record { answer = a; element = 0 } ≡ encoded p l x f

@@ -17,8 +17,8 @@ use lib.Ieee.Order.{round-mono}
 use lib.Ieee.Nearest.{div-same}
 use lib.Ieee.Positive.{num, den, positive, between, le→cross}
 use Rattle.field64.specs.Field.{p64}
-use Rattle.doubles.specs.Doubles.{signed, floorDiv, beyond, modP, floorLimit64, floorOf, element, power, centred, decoded}
-use Rattle.doubles.specs.Steps.{floorMod, within}
+use Rattle.doubles.specs.Doubles.{signed, floorDiv, beyond, floorOf, power, centred, decoded}
+use Rattle.doubles.specs.Steps.{floorAt, withinLimit}
 
 -- ---- a double that a format holds: few digits, no smaller than the format's smallest value, below its overflow
 pub record Held (b : Format) (m : ℕ) (e : ℤ) : Type 0 where
@@ -247,47 +247,53 @@ floor-same true zero c (suc b) d C D e = absurd (no-zero b c d C e)
 floor-same true (suc a) c zero d C D e = absurd (no-zero a d c D (sym e))
 floor-same true (suc a) c (suc b) d C D e = ap negsuc (le-antisymm (below-same a b c d C D e) (below-same b a d c D C (sym e)))
 
-pub floor-of-value : (p : ℕ) (z : Float) (s : Bool) (a c : ℕ) → 0 < c → HasValue z s a c → (floorMod p z ≡ modP p (floorDiv (signed s a) c)) × (within z ≡ not (beyond floorLimit64 (floorDiv (signed s a) c)))
-unfolding floorMod within
-floor-of-value p nan s a c C h = absurd h
-floor-of-value p (inf t) s a c C h = absurd h
-floor-of-value p (fin t m e) s a c C h =
-    let same : floorDiv (signed t (m * up e)) (down e) ≡ floorDiv (signed s a) c =
-    ap (λ (v : Bool). floorDiv (signed v (m * up e)) (down e)) (h .0) ∙ floor-same s (m * up e) (down e) a c (down-pos e) C (h .1) in
-    (ap (modP p) same, ap (λ (z : ℤ). not (beyond floorLimit64 z)) same)
+pub floor-of-value : (z : Float) (s : Bool) (a c : ℕ) → 0 < c → HasValue z s a c → floorAt z ≡ floorDiv (signed s a) c
+unfolding floorAt
+floor-of-value nan s a c C h = absurd h
+floor-of-value (inf t) s a c C h = absurd h
+floor-of-value (fin t m e) s a c C h = ap (λ (v : Bool). floorDiv (signed v (m * up e)) (down e)) (h .0) ∙ floor-same s (m * up e) (down e) a c (down-pos e) C (h .1)
 
--- ---- a size of 2 ^ 64 or more has its floor beyond the limit
-far-floor : (s : Bool) (a c : ℕ) → 0 < c → 2 ^ 64 * c ≤ a → beyond floorLimit64 (floorDiv (signed s a) c) ≡ true
-unfolding floorDiv
-far-floor false a c C h = lt-ltb floorLimit64 (a / c) (lt-of-lt-of-le (lit< tt) (le-div-iff-mul-le C .1 h))
-far-floor true zero c C h = absurd (not-le-of-lt (mul-pos (pow-pos 64) C) h)
-far-floor true (suc a) c C h = lt-ltb floorLimit64 (suc (a / c)) (suc-le-suc (le-trans (lit≤ tt) (le-div-iff-mul-le C .1 (less c a C h))))
-  where
-    less : (c a : ℕ) → 0 < c → 2 ^ 64 * c ≤ suc a → (2 ^ 64 - 1) * c ≤ a
-    less c a C h = omega arith
+within-of-value : (l : ℕ) (z : Float) (s : Bool) (a c : ℕ) → 0 < c → HasValue z s a c → withinLimit l z ≡ not (beyond l (floorDiv (signed s a) c))
+unfolding withinLimit floorAt
+within-of-value l nan s a c C h = absurd h
+within-of-value l (inf t) s a c C h = absurd h
+within-of-value l (fin t m e) s a c C h = ap (λ (z : ℤ). not (beyond l z)) (floor-of-value (fin t m e) s a c C h)
 
-within-inf : (s : Bool) → within (inf s) ≡ false
-unfolding within
-within-inf s = refl
+-- ---- a size of 2 ^ 64 or more has its floor beyond a limit below that
+module _ (l : ℕ) (small : l < 2 ^ 64) where
+  far-floor : (s : Bool) (a c : ℕ) → 0 < c → 2 ^ 64 * c ≤ a → beyond l (floorDiv (signed s a) c) ≡ true
+  unfolding floorDiv
+  far-floor false a c C h = lt-ltb l (a / c) (lt-of-lt-of-le small (le-div-iff-mul-le C .1 h))
+  far-floor true zero c C h = absurd (not-le-of-lt (mul-pos (pow-pos 64) C) h)
+  far-floor true (suc a) c C h = lt-ltb l (suc (a / c)) (suc-le-suc (le-trans (le-of-suc-le-suc small) (le-div-iff-mul-le C .1 (less c a C h))))
+    where
+      less : (c a : ℕ) → 0 < c → 2 ^ 64 * c ≤ suc a → (2 ^ 64 - 1) * c ≤ a
+      less c a C h = omega arith
 
--- ---- so the floor of the product is that of x * 2 ^ k: where the product overflows, both are beyond the limit
-pub product-within : (s : Bool) (m : ℕ) (e : ℤ) (k : ℕ) → T (fits binary64 (fin s m e)) → within (mul binary64 (fin s m e) (power k)) ≡ not (beyond floorLimit64 (floorOf (fin s m e) k))
-unfolding floorOf
-product-within s m e k t = go (decLe (2 ^ 1024 * down e) (m * up e * 2 ^ k))
-  where
-    go : Dec (2 ^ 1024 * down e ≤ m * up e * 2 ^ k) → within (mul binary64 (fin s m e) (power k)) ≡ not (beyond floorLimit64 (floorDiv (signed s (m * up e * 2 ^ k)) (down e)))
-    go (yes h) =
-        ap within (product-overflows s m e k h) ∙ within-inf s
-        ∙ ap not (sym (far-floor s (m * up e * 2 ^ k) (down e) (down-pos e) (le-trans (mul-le-mul-right (down e) (lit≤ tt)) h)))
-    go (no h) = floor-of-value p64 (mul binary64 (fin s m e) (power k)) s (m * up e * 2 ^ k) (down e) (down-pos e) (product-exact binary64 s m e k t (lt-of-not-le h)) .1
+  within-inf : (s : Bool) → withinLimit l (inf s) ≡ false
+  unfolding withinLimit
+  within-inf s = refl
 
-pub product-floor : (s : Bool) (m : ℕ) (e : ℤ) (k : ℕ) → T (fits binary64 (fin s m e)) → beyond floorLimit64 (floorOf (fin s m e) k) ≡ false → floorMod p64 (mul binary64 (fin s m e) (power k)) ≡ element p64 (fin s m e) k
-unfolding element floorOf
-product-floor s m e k t b = go (decLe (2 ^ 1024 * down e) (m * up e * 2 ^ k))
-  where
-    go : Dec (2 ^ 1024 * down e ≤ m * up e * 2 ^ k) → floorMod p64 (mul binary64 (fin s m e) (power k)) ≡ modP p64 (floorDiv (signed s (m * up e * 2 ^ k)) (down e))
-    go (yes h) = absurd (true≢false (sym (far-floor s (m * up e * 2 ^ k) (down e) (down-pos e) (le-trans (mul-le-mul-right (down e) (lit≤ tt)) h)) ∙ b))
-    go (no h) = floor-of-value p64 (mul binary64 (fin s m e) (power k)) s (m * up e * 2 ^ k) (down e) (down-pos e) (product-exact binary64 s m e k t (lt-of-not-le h)) .0
+  -- ---- so the floor of the product is that of x * 2 ^ k: where the product overflows, both are beyond the limit
+  module _ (s : Bool) (m : ℕ) (e : ℤ) (k : ℕ) (t : T (fits binary64 (fin s m e))) where
+    overflow-far : 2 ^ 1024 * down e ≤ m * up e * 2 ^ k → beyond l (floorDiv (signed s (m * up e * 2 ^ k)) (down e)) ≡ true
+    overflow-far h = far-floor s (m * up e * 2 ^ k) (down e) (down-pos e) (le-trans (mul-le-mul-right (down e) (lit≤ tt)) h)
+
+    pub product-within : withinLimit l (mul binary64 (fin s m e) (power k)) ≡ not (beyond l (floorOf (fin s m e) k))
+    unfolding floorOf
+    product-within = go (decLe (2 ^ 1024 * down e) (m * up e * 2 ^ k))
+      where
+        go : Dec (2 ^ 1024 * down e ≤ m * up e * 2 ^ k) → withinLimit l (mul binary64 (fin s m e) (power k)) ≡ not (beyond l (floorDiv (signed s (m * up e * 2 ^ k)) (down e)))
+        go (yes h) = ap (withinLimit l) (product-overflows s m e k h) ∙ within-inf s ∙ ap not (sym (overflow-far h))
+        go (no h) = within-of-value l (mul binary64 (fin s m e) (power k)) s (m * up e * 2 ^ k) (down e) (down-pos e) (product-exact binary64 s m e k t (lt-of-not-le h))
+
+    pub product-floor : beyond l (floorOf (fin s m e) k) ≡ false → floorAt (mul binary64 (fin s m e) (power k)) ≡ floorOf (fin s m e) k
+    unfolding floorOf
+    product-floor b = go (decLe (2 ^ 1024 * down e) (m * up e * 2 ^ k))
+      where
+        go : Dec (2 ^ 1024 * down e ≤ m * up e * 2 ^ k) → floorAt (mul binary64 (fin s m e) (power k)) ≡ floorDiv (signed s (m * up e * 2 ^ k)) (down e)
+        go (yes h) = absurd (true≢false (sym (overflow-far h) ∙ b))
+        go (no h) = floor-of-value (mul binary64 (fin s m e) (power k)) s (m * up e * 2 ^ k) (down e) (down-pos e) (product-exact binary64 s m e k t (lt-of-not-le h))
 
 -- ---- 2 ^ f, for a small f, as a double
 power-fits : (f : ℕ) → f ≤ 30 → T (fits binary64 (power f))

@@ -200,16 +200,16 @@ below-mod p k z P h =
     regroup r d l e = omega arith
 
 pub floor-minus : (p : ℕ) (x : Float) (n z c : ℕ) → 0 < p → 0 < c → Minus x n (z * c) c → (floorMod p x + z) % p ≡ n / c % p
-unfolding floorDiv modP
+unfolding floorMod floorDiv modP
 floor-minus p x n z c P C (over v e h) =
-    ap (λ (i : ℕ). (i + z) % p) (floor-of-value p x false v c C h .0)
+    ap (λ (i : ℕ). (i + z) % p) (ap (modP p) (floor-of-value x false v c C h))
     ∙ mod-add-mod (v / c) p z
     ∙ ap (λ (i : ℕ). i % p) (sym (add-mul-div-right v z C) ∙ ap (λ (i : ℕ). i / c) (add-comm v (z * c) ∙ sym e))
 floor-minus p x n z c P C (under zero e h) =
-    ap (λ (i : ℕ). (i + z) % p) (floor-of-value p x true 0 c C h .0 ∙ ap (λ (i : ℕ). i % p) (zero-div c))
+    ap (λ (i : ℕ). (i + z) % p) (ap (modP p) (floor-of-value x true 0 c C h) ∙ ap (λ (i : ℕ). i % p) (zero-div c))
     ∙ mod-add-mod 0 p z
     ∙ ap (λ (i : ℕ). i % p) (zero-add z ∙ sym (mul-div-cancel z C) ∙ ap (λ (i : ℕ). i / c) (e ∙ add-zero n))
 floor-minus p x n z c P C (under (suc a) e h) =
-    ap (λ (i : ℕ). (i + z) % p) (floor-of-value p x true (suc a) c C h .0)
+    ap (λ (i : ℕ). (i + z) % p) (ap (modP p) (floor-of-value x true (suc a) c C h))
     ∙ below-mod p (a / c) z P (few n z c a C e)
     ∙ ap (λ (i : ℕ). i % p) (sym (floor-below n z c a C e))

@@ -96,9 +96,7 @@ mod-below p (negsuc n) P = less (n % p)
 
 pub floor-lt : (p : ℕ) (w : Float) → 0 < p → floorMod p w < p
 unfolding floorMod
-floor-lt p nan P = P
-floor-lt p (inf s) P = P
-floor-lt p (fin s m e) P = mod-below p _ P
+floor-lt p w P = mod-below p _ P
 
 pub word-is : (r f g : ℕ) → r < 2 ^ 64 → f < 2 ^ 64 → (r + (base + middle 0)) % 2 ^ 64 ≡ base + g → (f + middle 0) % 2 ^ 64 ≡ g → r ≡ f
 word-is r f g R F h e = omega arith

@@ -1,4 +1,4 @@
--- The floor of any double within the limit, in two parts: y, the sum of w and 3 * 2 ^ 83, counts multiples of 2 ^ 32, and what is left of w beside them, which is exact, has a floor of its own. Assumes nothing.
+-- The floor of any double below 2 ^ 64 in size, in two parts: y, the sum of w and 3 * 2 ^ 83, counts multiples of 2 ^ 32, and what is left of w beside them, which is exact, has a floor of its own. Assumes nothing.
 use mathlib.Core.Path.{_≡_, refl, sym, ap, _∙_, subst}
 use mathlib.Core.Logic.{_⊎_, inl, inr}
 use mathlib.Core.Bool.{Bool, true, false, not, _&&_, false≢true}
@@ -18,7 +18,7 @@ use lib.Ieee.Order.{round-mono}
 use lib.Ieee.Positive.{den-pos, positive, positive-of-value, value→cross, le→cross}
 use Rattle.field64.specs.Field.{p64}
 use Rattle.doubles.specs.Doubles.{signed, floorDiv, beyond, modP, floorLimit64}
-use Rattle.doubles.specs.Steps.{floorMod, within, near}
+use Rattle.doubles.specs.Steps.{floorAt, floorMod, withinLimit, within, near}
 use Rattle.doubles.proofs.Laws.{held, exponent-le}
 use Rattle.doubles.proofs.Floor.{within-size}
 use Rattle.doubles.proofs.Minus.{Minus, over, under, Holds, sub-minus, lt-minus, floor-minus}
@@ -109,19 +109,19 @@ close-holds n b e h k s v i = fraction-exact s v e h (le-trans (within-apart i) 
 wide : (c : ℕ) → middle 32 * c ≡ 6755399441055744 * (c * 2 ^ 32)
 wide c = omega arith
 
-in-units : (a c : ℕ) → a ≤ floorLimit64 * c → a ≤ 2 ^ 31 * (c * 2 ^ 32)
+in-units : (a c : ℕ) → a ≤ 2 ^ 64 * c → a ≤ 2 ^ 32 * (c * 2 ^ 32)
 in-units a c h = omega arith
 
-room : (a d z : ℕ) → z ≡ 6755399441055744 * d → a ≤ 2 ^ 31 * d → a ≤ z
+room : (a d z : ℕ) → z ≡ 6755399441055744 * d → a ≤ 2 ^ 32 * d → a ≤ z
 room a d z e h = omega arith
 
-from-least : (a d z n : ℕ) → z ≡ 6755399441055744 * d → a ≤ 2 ^ 31 * d → z - a ≤ n → 2 ^ 52 * d ≤ n
+from-least : (a d z n : ℕ) → z ≡ 6755399441055744 * d → a ≤ 2 ^ 32 * d → z - a ≤ n → 2 ^ 52 * d ≤ n
 from-least a d z n e h k = omega arith
 
-to-most : (a d z n : ℕ) → z ≡ 6755399441055744 * d → 0 < d → a ≤ 2 ^ 31 * d → n ≤ z + a → n < 7881299347898368 * d
+to-most : (a d z n : ℕ) → z ≡ 6755399441055744 * d → 0 < d → a ≤ 2 ^ 32 * d → n ≤ z + a → n < 7881299347898368 * d
 to-most a d z n e D h k = omega arith
 
-module _ (s : Bool) (m : ℕ) (e : ℤ) (g : m * up e ≤ floorLimit64 * down e) where
+module _ (s : Bool) (m : ℕ) (e : ℤ) (g : m * up e ≤ 2 ^ 64 * down e) where
   abbrev sum-of : ℕ
   sum-of = shifted s (m * up e) (middle 32 * down e)
 
@@ -182,7 +182,7 @@ digits m k h g =
     fewer : (k : ℕ) → 31 + suc k < 53 → suc k + 32 ≤ 53
     fewer k h = omega arith
 
-close : (s : Bool) (m : ℕ) (e : ℤ) (t : T (fits binary64 (fin s m e))) (g : m * up e ≤ floorLimit64 * down e) → Close (sum-of s m e g) (high s m e g)
+close : (s : Bool) (m : ℕ) (e : ℤ) (t : T (fits binary64 (fin s m e))) (g : m * up e ≤ 2 ^ 64 * down e) → Close (sum-of s m e g) (high s m e g)
 close s m (pos k) t g = close-by-rounding s m (pos k) g (lit≤ tt)
 close s m (negsuc k) t g = go (decLe (2 ^ 31 * 2 ^ suc k) (m * 1))
   where
@@ -212,7 +212,7 @@ small-near x n b c C h g k l =
 joined : (f l q x b : ℕ) → f < 2 ^ 64 → (f + 29014219670751100192948224) % 2 ^ 64 ≡ x % 2 ^ 64 → (l + q * 2 ^ 32) % 2 ^ 64 ≡ x % 2 ^ 64 → b ≡ 1106 * 2 ^ 52 + q → f ≡ (b * 2 ^ 32 % 2 ^ 64 + l) % 2 ^ 64
 joined f l q x b F h g e = omega arith
 
-split-size : (s : Bool) (m : ℕ) (e : ℤ) → T (fits binary64 (fin s m e)) → m * up e ≤ floorLimit64 * down e → Split (fin s m e)
+split-size : (s : Bool) (m : ℕ) (e : ℤ) → T (fits binary64 (fin s m e)) → m * up e ≤ 2 ^ 64 * down e → Split (fin s m e)
 split-size s m e t g =
     let w = fin s m e in
     let c : ℕ = down e in
@@ -231,10 +231,10 @@ split-size s m e t g =
           (r .bits);
     }
 
-pub split : (w : Float) → T (fits binary64 w) → within w ≡ true → Split w
-split nan t h = absurd (false≢true (unfold within in h))
-split (inf s) t h = absurd (false≢true (unfold within in h))
-split (fin s m e) t h = split-size s m e t (within-size s m e t h)
+pub split : (w : Float) → T (fits binary64 w) → withinLimit (2 ^ 64 - 1) w ≡ true → Split w
+split nan t h = absurd (false≢true (unfold withinLimit in h))
+split (inf s) t h = absurd (false≢true (unfold withinLimit in h))
+split (fin s m e) t h = split-size s m e t (le-trans (within-size (2 ^ 64 - 1) (lit≤ tt) s m e t h) (mul-le-mul-right (down e) (lit≤ tt)))
 
 -- ---- the word of a floor within the limit, as a field number: 2 ^ 64 - p less where it is negative
 -- x is the word
@@ -278,7 +278,7 @@ field-of (negsuc n) h r R e =
     ends n m e = omega arith
 
 pub field-word : (w : Float) → within w ≡ true → (r : ℕ) → r < 2 ^ 64 → (r + floorMod (2 ^ 64) w / 2 ^ 63 * 4294967295) % 2 ^ 64 ≡ floorMod (2 ^ 64) w → r ≡ floorMod p64 w
-unfolding within floorMod
+unfolding withinLimit floorMod floorAt
 field-word nan h r R e = absurd (false≢true h)
 field-word (inf s) h r R e = absurd (false≢true h)
 field-word (fin s m e) h r R i = field-of (floorDiv (signed s (m * up e)) (down e)) (not-true _ h) r R i

@@ -87,7 +87,15 @@ plusZero = fin false 0 (pos 0)
 abbrev pub power : (f : ℕ) → Float
 power f = fin false 1 (pos f)
 
--- the double nearest to y read as a centred number, a tie to the even one: y above (p - 1) / 2 stands for y - p
+-- the size of y as a centred number: y above (p - 1) / 2 stands for y - p
+abbrev pub centredSize : (p y : ℕ) → ℕ
+centredSize p y = cond (ltb ((p - 1) / 2) y) (p - y) y
+
+-- how large that may be, over Field64: every centred number's size is within it
+abbrev pub sizeLimit64 : ℕ
+sizeLimit64 = (p64 - 1) / 2
+
+-- the double nearest to y read as a centred number, a tie to the even one
 unfoldable pub centred : (p y : ℕ) → Float
 centred p y = cond (ltb ((p - 1) / 2) y) (neg (ofInt binary64 (pos (p - y)))) (ofInt binary64 (pos y))
 
@@ -99,8 +107,12 @@ decoded p y f = div binary64 (centred p y) (power f)
 abbrev pub elementRule : (p y : ℕ) → Answer
 elementRule p y = refuse (leb p y) 12 0
 
+-- rule 23, of one element: its size as a centred number lies beyond the limit
+abbrev pub sizeRule : (p limit y : ℕ) → Answer
+sizeRule p limit y = refuse (ltb limit (centredSize p y)) 23 0
+
 -- what `field_to_f64` answers; beside a refusal the double is +0
-unfoldable pub decodedOf : (p y f : ℕ) → Decoded
-decodedOf p y f =
-    let a = inOrder (fracBitsRule f ∷ elementRule p y ∷ []) in
+unfoldable pub decodedOf : (p limit y f : ℕ) → Decoded
+decodedOf p limit y f =
+    let a = inOrder (fracBitsRule f ∷ elementRule p y ∷ sizeRule p limit y ∷ []) in
     record { answer = a; value = cond (eqb (a .number) 0) (decoded p y f) plusZero }

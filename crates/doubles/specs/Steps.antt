@@ -1,21 +1,29 @@
 -- What the inner functions of `doubles` give. Assumes nothing.
 use Prim.Native.Nat.{ℕ, _*_}
 use mathlib.Core.Bool.{Bool, true, false, not, _&&_, cond}
-use lib.IntN.{pos, negsuc}
+use lib.IntN.{ℤ, pos, negsuc}
 use lib.Ieee.{Float, nan, inf, fin, up, down, neg, lt, eq}
 use Rattle.doubles.specs.Doubles.{signed, floorDiv, beyond, modP, floorLimit64}
 
--- a finite double's floor, modulo p
-unfoldable pub floorMod : (p : ℕ) → Float → ℕ
-floorMod p nan = 0
-floorMod p (inf s) = 0
-floorMod p (fin s m e) = modP p (floorDiv (signed s (m * up e)) (down e))
+-- a finite double's floor
+unfoldable pub floorAt : Float → ℤ
+floorAt nan = pos 0
+floorAt (inf s) = pos 0
+floorAt (fin s m e) = floorDiv (signed s (m * up e)) (down e)
 
--- a double is finite, and its floor not beyond the limit
-unfoldable pub within : Float → Bool
-within nan = false
-within (inf s) = false
-within (fin s m e) = not (beyond floorLimit64 (floorDiv (signed s (m * up e)) (down e)))
+-- that, modulo p
+unfoldable pub floorMod : (p : ℕ) → Float → ℕ
+floorMod p w = modP p (floorAt w)
+
+-- a double is finite, and its floor not beyond a limit
+unfoldable pub withinLimit : (limit : ℕ) → Float → Bool
+withinLimit limit nan = false
+withinLimit limit (inf s) = false
+withinLimit limit (fin s m e) = not (beyond limit (floorDiv (signed s (m * up e)) (down e)))
+
+-- over Field64
+abbrev pub within : Float → Bool
+within w = withinLimit floorLimit64 w
 
 -- below 2 ^ 50 in size
 unfoldable pub near : Float → Bool

@@ -7,11 +7,11 @@ ghost use mathlib.Core.Path.{_≡_};
 ghost use mathlib.Core.Bool.{true, false, not};
 ghost use Prim.Native.Nat.{_-_, _*_, _/_, _^_, _≤_, _<_};
 ghost use Rattle.field64.specs.Field.{p64};
-ghost use Rattle.doubles.specs.Doubles.{fracBitsRule, floorLimit64, power, unusable, coordinateRule, element, encoded, coordinateOf, centred, decoded, decodedOf};
-ghost use Rattle.doubles.specs.Steps.{floorMod, within, near, sizeOf, normalSize, small};
+ghost use Rattle.doubles.specs.Doubles.{fracBitsRule, floorLimit64, sizeLimit64, power, unusable, coordinateRule, element, encoded, coordinateOf, centred, decoded, decodedOf};
+ghost use Rattle.doubles.specs.Steps.{floorMod, withinLimit, within, near, sizeOf, normalSize, small};
 
 // The largest frac_bits.
-const MAX_FRAC_BITS: u64 = 30;
+pub const MAX_FRAC_BITS: u64 = 30;
 
 // (p - 1) / 2, and as a double.
 const HALF: u64 = 0x7fff_ffff_8000_0000;
@@ -110,16 +110,24 @@ fn near_floor(w: f64) -> u64
     std::num::wrapping_sub_u64(floor, MIDDLE_BITS)
 }
 
-// The same, of w up to (p - 1) / 2 in size. From 2^84 to 2^85 the doubles are the multiples of 2^32. So
+// The same, of any w below 2^64 in size. From 2^84 to 2^85 the doubles are the multiples of 2^32. So
 // w + HIGH_MIDDLE is HIGH_MIDDLE and a multiple of 2^32 close to w, which its lower bits count; what w is
 // beside that has no more digits than w, or is below 2^32, and is exact.
-fn floor_word(w: f64) -> u64
-    requires { ⌜ within w ≡ true ⌝ }
+pub fn far_floor(w: f64) -> u64
+    requires { ⌜ withinLimit (2 ^ 64 - 1) w ≡ true ⌝ }
     ensures { λ r. ⌜ r ≡ floorMod (2 ^ 64) w ⌝ }
 {
     let y = w + HIGH_MIDDLE;
     let low = near_floor(w - (y - HIGH_MIDDLE));
     std::num::wrapping_add_u64(f64::to_bits(y) << 32, low)
+}
+
+// The same, of w up to (p - 1) / 2 in size.
+fn floor_word(w: f64) -> u64
+    requires { ⌜ within w ≡ true ⌝ }
+    ensures { λ r. ⌜ r ≡ floorMod (2 ^ 64) w ⌝ }
+{
+    far_floor(w)
 }
 
 // The same modulo p, with no branch on the sign or the exponent, so that a loop over a row runs on
@@ -161,7 +169,7 @@ pub fn check_coordinate(x: f64, scale: f64, frac_bits: u64) -> Answer
 }
 
 // 1 where x is subnormal.
-fn small_flag(x: f64) -> u64
+pub fn small_flag(x: f64) -> u64
     ensures { λ r. ⌜ (r ≤ 1) × (r ≡ 0 → small x ≡ false) ⌝ }
 {
     let nonzero = if x == 0.0 { 0 } else { 1 };
@@ -245,7 +253,7 @@ pub fn f64_to_field(x: f64, frac_bits: u64) -> Coordinate
 
 // The field number y as a double.
 pub fn field_to_f64(y: u64, frac_bits: u64) -> Decoded
-    ensures { λ r. ⌜ r ≡ decodedOf p64 y «frac_bits» ⌝ }
+    ensures { λ r. ⌜ r ≡ decodedOf p64 sizeLimit64 y «frac_bits» ⌝ }
 {
     if MAX_FRAC_BITS < frac_bits {
         return Decoded {

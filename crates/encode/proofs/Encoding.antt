@@ -3,9 +3,10 @@ use mathlib.Core.Path.{_≡_, refl, sym, ap, _∙_}
 use mathlib.Core.Bool.{Bool, true, false, cond}
 use mathlib.Core.List.{List, [], _∷_, _++_}
 use Prim.Native.Nat.{ℕ, suc, _+_, _*_, _/_, _%_, _≤_, _<_}
+use native.Mathlib.Nat.{le-trans, lt-of-le-of-lt, mul-le-mul}
 use native.Mathlib.Omega.{arith}
 use lib.ListN.{length, take, drop}
-use lib.Dec.{eqb, ltb}
+use lib.Dec.{eqb, ltb, lit<}
 use lib.Ieee.{Float}
 use borrow.Author.Tests.{eq-eqb, ne-eqb, eqb-true}
 use Rattle.rules.specs.declared.Answer.{Answer}
@@ -16,11 +17,12 @@ use Rattle.pine.specs.declared.PineParam.{PineParam}
 use Rattle.pine.specs.declared.WrTestRule.{WrTestRule}
 use Rattle.pine.specs.declared.WrTestRule.the-variants.{Every, Enough}
 use Rattle.pine.specs.declared.record.Pine.{Pine}
-use Rattle.pine.specs.Param.{Field, Field64, paramAnswer}
-use Rattle.pine.specs.Record.{sqNormBits, wrTestBound, wrTestBits, bitCheckedLen, encodedInputLen, bytesPerTest, streamLen, pineOf, boundIn}
+use Rattle.pine.specs.Param.{Field, paramAnswer}
+use Rattle.pine.specs.Words.{WordLaws}
+use Rattle.pine.specs.Record.{sqNormBound, sqNormBits, wrTestBound, wrTestBits, bitCheckedLen, encodedInputLen, bytesPerTest, streamLen, pineOf, boundIn, Derivable}
 use Rattle.rows.specs.Rows.{rowRule}
 use Rattle.pine.proofs.Limits.{limits, param-accepted}
-use Rattle.pine.proofs.Sizes.{bound-64, norm-64, bound-positive, recovered-64}
+use Rattle.pine.proofs.Sizes.{bound-positive, limits-of, recovered-of, bound-below}
 use Rattle.rows.proofs.Lengths.{row-right}
 use Rattle.flp.specs.Tests.{testsOf}
 use Rattle.flp.specs.Encode.{elements, sqNorm, resultsOf, measurementOf, gradientLenRule, trueSqNorm, trueSqNormRule, sqNormRule, inRange, countInRange, everyRule, enoughRule, rangeRule, encodeOutcome, encodeRules, encodeAnswer, encodeOf}
@@ -62,23 +64,32 @@ module _ (i : PineParam) (R : Pine) (is : R ≡ pineOf i) where
   unfolding pineOf
   stream-is = rw is
 
-  -- b, as the record answers for it
-  pub bound-is : paramAnswer Field64 i ≡ accepted → boundIn R ≡ wrTestBound i
-  bound-is e = ap boundIn is ∙ recovered-64 i e .bound
+  -- ---- inputs from which a record can be derived
 
-  -- what Field64 has room for
-  pub bounds-fit : paramAnswer Field64 i ≡ accepted → (boundIn R ≤ p64) × ((0 < boundIn R) × (R .«sq_norm_bound» < p64))
-  unfolding pineOf
-  bounds-fit e = rw (bound-is e, is) (omega (arith, bound-64 i e), (bound-positive i, norm-64 i e))
+  module _ (d : Derivable i) where
+    -- b, as the record answers for it
+    pub bound-is : boundIn R ≡ wrTestBound i
+    bound-is = ap boundIn is ∙ recovered-of i d .bound
+
+    norm-fits : sqNormBound i < p64
+    unfolding sqNormBound
+    norm-fits =
+        let l : i .«norm_bound» ≤ 4294967295 = le-trans (limits-of i d .norm .1) (d .narrow) in
+        lt-of-le-of-lt (mul-le-mul l l) (lit< tt)
+
+    -- Field64 has room for both bounds, though the inputs may be another field's
+    pub bounds-fit : (boundIn R ≤ p64) × ((0 < boundIn R) × (R .«sq_norm_bound» < p64))
+    unfolding pineOf
+    bounds-fit = rw (bound-is, is) (omega (arith, bound-below p64 (lit< tt) i d), (bound-positive i, norm-fits))
 
 -- ---- from rule 21 on, the results given
 
-module _ (F : Field) (i : PineParam) (g : List Float) (found m r : List ℕ) (rooms : Rooms i g found m r) where
+module _ (F : Field) (i : PineParam) (g : List Float) (found m r : List ℕ) (rooms : Rooms F i g found m r) where
   module _ (R : Pine) (is : R ≡ pineOf i) where
     -- the rest of the measurement's row is as long as what follows the gradient
-    pub rest-long : length m ≡ length g + (2 * R .«sq_norm_bits» + (1 + R .«wr_test_bits») * length found)
+    pub rest-long : length m ≡ F .wordsIn (length g + (2 * R .«sq_norm_bits» + (1 + R .«wr_test_bits») * length found))
     unfolding pineOf encodedInputLen bitCheckedLen
-    rest-long = rw is (rooms .1 .1 .0 ∙ (λ j. sym (rooms .0) j + (2 * sqNormBits i + (1 + wrTestBits i) * sym (rooms .1 .0) j)))
+    rest-long = rw is (rooms .1 .1 .0 ∙ (λ j. F .wordsIn (sym (rooms .0) j + (2 * sqNormBits i + (1 + wrTestBits i) * sym (rooms .1 .0) j))))
 
     -- what the code has found
     module _ (b-is : boundIn R ≡ wrTestBound i) (positive : 0 < F .p) (sq v b : ℕ) (a : Answer) (eb : b ≡ boundIn R) (en : sq ≡ trueSqNorm (i .«frac_bits») g) (ev : v ≡ sq % F .p)
@@ -94,12 +105,12 @@ module _ (F : Field) (i : PineParam) (g : List Float) (found m r : List ℕ) (ro
       unfolding lateOf
       late-refused h = rw (answer-is, ne-eqb (a .number) 0 h)
 
-      module _ (m₁ : List ℕ) (em : m₁ ≡ elements (F .p) (R .«frac_bits») g ++ checkedOf (F .p) (R .«sq_norm_bits») v (subMod (F .p) (R .«sq_norm_bound») v) (R .«wr_test_bits») (boundIn R) (R .«num_wr_successes») found) where
-        written : m₁ ≡ measurementWith F i g found m r
+      module _ (m₁ : List ℕ) (em : m₁ ≡ F .words (elements (F .p) (R .«frac_bits») g ++ checkedOf (F .p) (R .«sq_norm_bits») v (subMod (F .p) (R .«sq_norm_bound») v) (R .«wr_test_bits») (boundIn R) (R .«num_wr_successes») found)) where
+        written : m₁ ≡ F .words (measurementWith F i g found m r)
         unfolding pineOf
-        written = em ∙ (λ j. elements (F .p) (is j .«frac_bits») g ++ checkedOf (F .p) (is j .«sq_norm_bits») (norm-is j) (subMod (F .p) (is j .«sq_norm_bound») (norm-is j)) (is j .«wr_test_bits») (b-is j) (is j .«num_wr_successes») found)
+        written = em ∙ (λ j. F .words (elements (F .p) (is j .«frac_bits») g ++ checkedOf (F .p) (is j .«sq_norm_bits») (norm-is j) (subMod (F .p) (is j .«sq_norm_bound») (norm-is j)) (is j .«wr_test_bits») (b-is j) (is j .«num_wr_successes») found))
 
-        pub late-accepted : (r₁ : List ℕ) → a .number ≡ 0 → r₁ ≡ found → encodeOutcome a m₁ r₁ ≡ lateOf F i g found m r
+        pub late-accepted : (r₁ : List ℕ) → a .number ≡ 0 → r₁ ≡ F .words found → encodeOutcome a m₁ r₁ ≡ lateOf F i g found m r
         unfolding lateOf
         late-accepted r₁ z er = rw (answer-is, eq-eqb (a .number) 0 z, written, er)
 
@@ -115,7 +126,7 @@ module _ (F : Field) (i : PineParam) (g : List Float) (s m r : List ℕ) where
   -- rules 1 to 9, 17 and 19, the inputs accepted
   pub early-is : (R : Pine) → R ≡ pineOf i → (a₂ a : Answer) → paramAnswer F i .number ≡ 0
       → a₂ ≡ rowRule 2 (length s) (streamLen (i .«num_wr_tests») (i .dimension))
-      → a ≡ rowsAnswer (F .floorLimit) R a₂ g m r → a ≡ early
+      → a ≡ rowsAnswer F R a₂ g m r → a ≡ early
   unfolding encodeRules pineOf
   early-is R is a₂ a h e₂ e = e ∙ simp (is, e₂, eq-eqb _ _ h, len-last (length g) (i .dimension))
 
@@ -142,8 +153,8 @@ module _ (F : Field) (i : PineParam) (g : List Float) (s m r : List ℕ) where
     pub record Ready : Type 0 where
       pub inputs : paramAnswer F i ≡ accepted
       pub stream-long : length s ≡ streamLen (i .«num_wr_tests») (i .dimension)
-      pub measurement-long : length m ≡ encodedInputLen i
-      pub results-long : length r ≡ i .«num_wr_tests»
+      pub measurement-long : length m ≡ F .wordsIn (encodedInputLen i)
+      pub results-long : length r ≡ F .wordsIn (i .«num_wr_tests»)
       pub usable : Usable (F .floorLimit) (i .«frac_bits») g
       pub gradient-long : length g ≡ i .dimension
       pub dimension : (0 < i .dimension) × (i .dimension ≤ 65536)
@@ -165,42 +176,46 @@ module _ (F : Field) (i : PineParam) (g : List Float) (s m r : List ℕ) where
           tests = l .tests;
         }
 
-    pub few : length r ≤ 256
-    few = omega (arith, ready .results-long, ready .tests)
+    module _ (laws : WordLaws F) where
+      results-counted : length (F .elements r) ≡ i .«num_wr_tests»
+      results-counted = laws .counted r (i .«num_wr_tests») (ready .results-long)
 
-    -- with a row of n results: the tests have room, and take the whole stream
-    module _ (n : ℕ) (l : n ≡ length r) where
-      pub record Room : Type 0 where
-        pub whole : n * ((length g + 3) / 4) ≡ streamLen (i .«num_wr_tests») (i .dimension)
-        pub tests : (0 < n) × (n ≤ 256)
-        pub per : ((0 < (length g + 3) / 4) × ((length g + 3) / 4 ≤ 16384)) × (length g ≤ 4 * ((length g + 3) / 4))
+      pub few : length (F .elements r) ≤ 256
+      few = omega (arith, results-counted, ready .tests)
 
-      pub room : Room
-      room =
-          let e = l ∙ ready .results-long in
-          let d = ready .gradient-long in
-          record {
-            whole = λ j. e j * bytesPerTest (d j);
-            tests = (omega (arith, e, ready .tests), omega (arith, e, ready .tests));
-            per = ((omega (arith, d, ready .dimension), omega (arith, d, ready .dimension)), omega arith);
-          }
+      -- with a row of n results: the tests have room, and take the whole stream
+      module _ (n : ℕ) (l : n ≡ length (F .elements r)) where
+        pub record Room : Type 0 where
+          pub whole : n * ((length g + 3) / 4) ≡ streamLen (i .«num_wr_tests») (i .dimension)
+          pub tests : (0 < n) × (n ≤ 256)
+          pub per : ((0 < (length g + 3) / 4) × ((length g + 3) / 4 ≤ 16384)) × (length g ≤ 4 * ((length g + 3) / 4))
 
-    pub rooms : (found : List ℕ) → length found ≡ length r → Rooms i g found m r
-    rooms found l = (ready .gradient-long, (l ∙ ready .results-long, (ready .measurement-long, ready .results-long)))
+        pub room : Room
+        room =
+            let e = l ∙ results-counted in
+            let d = ready .gradient-long in
+            record {
+              whole = λ j. e j * bytesPerTest (d j);
+              tests = (omega (arith, e, ready .tests), omega (arith, e, ready .tests));
+              per = ((omega (arith, d, ready .dimension), omega (arith, d, ready .dimension)), omega arith);
+            }
 
-    -- when the results are those of the tests
-    module _ (found : List ℕ) (n : ℕ) (f : ℕ) (l : n ≡ length r) (f-is : f ≡ i .«frac_bits») (er : found ≡ testsOf (F .p) ((length g + 3) / 4) n s (elements (F .p) f g)) where
-      results-are : found ≡ resultsOf (F .p) i s xs
-      unfolding resultsOf
-      results-are = er ∙ (λ j. testsOf (F .p) (bytesPerTest (ready .gradient-long j)) ((l ∙ ready .results-long) j) s (elements (F .p) (f-is j) g))
+      pub rooms : (found : List ℕ) → length found ≡ length (F .elements r) → Rooms F i g found m r
+      rooms found l = (ready .gradient-long, (l ∙ results-counted, (ready .measurement-long, ready .results-long)))
 
-      late : inOrder (drop 6 (encodeRules F i g s m r)) ≡ lateAnswer F i g found m r
-      unfolding encodeRules
-      late = rw (results-are, range-last (i .«wr_test_rule») (F .p) (wrTestBound i) (i .«num_wr_successes») (resultsOf (F .p) i s xs))
+      -- when the results are those of the tests
+      module _ (found : List ℕ) (n : ℕ) (f : ℕ) (l : n ≡ length (F .elements r)) (f-is : f ≡ i .«frac_bits») (er : found ≡ testsOf (F .p) ((length g + 3) / 4) n s (elements (F .p) f g)) where
+        results-are : found ≡ resultsOf (F .p) i s xs
+        unfolding resultsOf
+        results-are = er ∙ (λ j. testsOf (F .p) (bytesPerTest (ready .gradient-long j)) ((l ∙ results-counted) j) s (elements (F .p) (f-is j) g))
 
-      whole-is : encodeAnswer F i g s m r ≡ lateAnswer F i g found m r
-      whole-is = split 6 (encodeRules F i g s m r) ∙ first-passed early (inOrder (drop 6 (encodeRules F i g s m r))) (ap (λ (b : Answer). b .number) met) ∙ late
+        late : inOrder (drop 6 (encodeRules F i g s m r)) ≡ lateAnswer F i g found m r
+        unfolding encodeRules
+        late = rw (results-are, range-last (i .«wr_test_rule») (F .p) (wrTestBound i) (i .«num_wr_successes») (resultsOf (F .p) i s xs))
 
-      pub late-is : lateOf F i g found m r ≡ encodeOf F i g s m r
-      unfolding encodeOf lateOf measurementOf
-      late-is = rw (whole-is, results-are)
+        whole-is : encodeAnswer F i g s m r ≡ lateAnswer F i g found m r
+        whole-is = split 6 (encodeRules F i g s m r) ∙ first-passed early (inOrder (drop 6 (encodeRules F i g s m r))) (ap (λ (b : Answer). b .number) met) ∙ late
+
+        pub late-is : lateOf F i g found m r ≡ encodeOf F i g s m r
+        unfolding encodeOf lateOf measurementOf
+        late-is = rw (whole-is, results-are)

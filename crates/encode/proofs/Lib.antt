@@ -1,2 +1,2 @@
--- What the proofs of the functions cite: `Encoding` of the cases of the call.
-mod Encoding
+-- Laws of encoding, over any field: `Encoding` of the cases of the call.
+pub mod Encoding

@@ -18,17 +18,17 @@ use Rattle.flp.specs.Encode.{elements, sqNorm, trueSqNorm, coordinatesRule, gra
 use Rattle.measurement.specs.Parts.{checkedOf}
 
 -- rules 7 to 9 and 17 by a record's lengths, with the answer on row 2
-abbrev pub rowsAnswer : (limit : ℕ) → Pine → (row-2 : Answer) → (gradient : List Float) (measurement results : List ℕ) → Answer
-rowsAnswer limit R a₂ g m r =
+abbrev pub rowsAnswer : Field → Pine → (row-2 : Answer) → (gradient : List Float) (measurement results : List ℕ) → Answer
+rowsAnswer F R a₂ g m r =
     first a₂
-    (first (rowRule 3 (length m) (R .«encoded_input_len»))
-    (first (rowRule 4 (length r) (R .«num_wr_tests»))
-    (first (coordinatesRule limit (R .«frac_bits») 0 g)
+    (first (rowRule 3 (length m) (F .wordsIn (R .«encoded_input_len»)))
+    (first (rowRule 4 (length r) (F .wordsIn (R .«num_wr_tests»)))
+    (first (coordinatesRule (F .floorLimit) (R .«frac_bits») 0 g)
     (gradientLenRule (length g) (R .dimension)))))
 
--- the rows are as long as the inputs say
-abbrev pub Rooms : PineParam → (gradient : List Float) (found measurement results : List ℕ) → Type 0
-Rooms i g found m r = (length g ≡ i .dimension) × ((length found ≡ i .«num_wr_tests») × ((length m ≡ encodedInputLen i) × (length r ≡ i .«num_wr_tests»)))
+-- the rows are as long as the inputs say; the results found are elements
+abbrev pub Rooms : Field → PineParam → (gradient : List Float) (found measurement results : List ℕ) → Type 0
+Rooms F i g found m r = (length g ≡ i .dimension) × ((length found ≡ i .«num_wr_tests») × ((length m ≡ F .wordsIn (encodedInputLen i)) × (length r ≡ F .wordsIn (i .«num_wr_tests»))))
 
 -- rules from 21 on, the results given, and what they leave in the rows
 module _ (F : Field) (i : PineParam) (g : List Float) (found measurement results : List ℕ) where
@@ -45,4 +45,4 @@ module _ (F : Field) (i : PineParam) (g : List Float) (found measurement results
       ++ checkedOf (F .p) (sqNormBits i) (sqNorm (F .p) (elements (F .p) (i .«frac_bits») g)) (subMod (F .p) (sqNormBound i) (sqNorm (F .p) (elements (F .p) (i .«frac_bits») g))) (wrTestBits i) (wrTestBound i) (i .«num_wr_successes») found
 
   unfoldable pub lateOf : Encoded
-  lateOf = cond (eqb (lateAnswer .number) 0) (encodeOutcome lateAnswer measurementWith found) (encodeOutcome lateAnswer measurement results)
+  lateOf = cond (eqb (lateAnswer .number) 0) (encodeOutcome lateAnswer (F .words measurementWith) (F .words found)) (encodeOutcome lateAnswer measurement results)

@@ -28,7 +28,7 @@ fn check_rows(
     results: &[u64],
 ) -> Answer
     requires { ⌜ pine .scale ≡ power (pine .«frac_bits») ⌝ }
-    ensures { λ r. ⌜ r ≡ rowsAnswer floorLimit64 pine «row_2» (now (gradient .entry)) (now (measurement .entry)) (now (results .entry)) ⌝ }
+    ensures { λ r. ⌜ r ≡ rowsAnswer Field64 pine «row_2» (now (gradient .entry)) (now (measurement .entry)) (now (results .entry)) ⌝ }
 {
     let row_3 = rows::check_len(3, measurement.len(), pine.encoded_input_len);
     let row_4 = rows::check_len(4, results.len(), pine.num_wr_tests);
@@ -49,7 +49,7 @@ fn finish(
 ) -> Answer
     requires { ⌜ (pine ≡ pineOf param) × (paramAnswer Field64 param ≡ accepted) ⌝ }
     requires { ⌜ Usable floorLimit64 (param .«frac_bits») (now gradient) × (wordsOf norm ≡ trueSqNorm (param .«frac_bits») (now gradient)) ⌝ }
-    requires { ⌜ Below p64 (now found) × Rooms param (now gradient) (now found) (now measurement) (now results) ⌝ }
+    requires { ⌜ Below p64 (now found) × Rooms Field64 param (now gradient) (now found) (now measurement) (now results) ⌝ }
     ensures { λ r. ⌜ encodeOutcome r (now (measurement .exit)) (now (results .exit)) ≡ lateOf Field64 param (now (gradient .entry)) (now (found .entry)) (now (measurement .entry)) (now (results .entry)) ⌝ }
 {
     let rule = param.wr_test_rule;

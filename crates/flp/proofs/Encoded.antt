@@ -27,6 +27,18 @@ bound-fits : (i : PineParam) (v : ℕ) → v ≤ sqNormBound i → v < 2 ^ sqNor
 unfolding sqNormBits
 bound-fits i v h = lt-of-le-of-lt h (digits-above (sqNormBound i))
 
+-- a measurement's elements are below p
+pub measurement-below : (p : ℕ) → 2 ≤ p → (i : PineParam) (s xs : List ℕ) → Below p xs → Below p (measurementOf p i s xs)
+unfolding measurementOf
+measurement-below p h i s xs f =
+    let q = sqNormBits i in
+    let v = sqNorm p xs in
+    let u = subMod p (sqNormBound i) v in
+    let ts = testBits p (wrTestBits i) (wrTestBound i) (i .«num_wr_successes») (resultsOf p i s xs) in
+    let tests : Below 2 ts = test-bits-below p (wrTestBits i) (wrTestBound i) (i .«num_wr_successes») (resultsOf p i s xs) in
+    let checked : Below 2 (bits q v ++ (bits q u ++ ts)) = below-append 2 (bits q v) (bits q u ++ ts) (bits-below q v) (below-append 2 (bits q u) ts (bits-below q u) tests) in
+    below-append p xs (bits q v ++ (bits q u ++ ts)) f (below-more 2 p h (bits q v ++ (bits q u ++ ts)) checked)
+
 -- what the rules leave of an encoding, its elements being xs
 pub record Sound (p : ℕ) (i : PineParam) (stream xs : List ℕ) : Type 0 where
   pub big : 1 < p
@@ -123,8 +135,8 @@ module _ (p : ℕ) (i : PineParam) (stream xs : List ℕ) (h : Sound p i stream 
       let l : u ≤ sqNormBound i = omega (arith, u-is) in
       rw (checked-is, drop-at (bits q v) (bits q u ++ tb) q (length-bits q v), take-at (bits q u) tb q (length-bits q u)) (number-bits p q u (bound-fits i u l) ∙ ap (λ (x : ℕ). x % p) u-is)
 
-  results-below : Below p rs
-  unfolding rs resultsOf
+  pub results-below : Below p (resultsOf p i stream xs)
+  unfolding resultsOf
   results-below = tests-below p positive (bytesPerTest (i .dimension)) (i .«num_wr_tests») stream xs
 
   written-fits : Below (2 ^ wrTestBits i) (map (written p (wrTestBound i)) rs)
@@ -156,4 +168,5 @@ module _ (p : ℕ) (i : PineParam) (stream xs : List ℕ) (h : Sound p i stream 
   length-full = length-append (measurementOf p i stream xs) (resultsOf p i stream xs) ∙ omega (arith, length-measurement, length-results)
 
   pub full-below : Below p fullOf
-  full-below = rw full-is (below-append p xs (checked ++ rs) (h .below) (below-append p checked rs (below-more 2 p (h .big) checked checked-below) results-below))
+  unfolding fullOf rs
+  full-below = below-append p (measurementOf p i stream xs) (resultsOf p i stream xs) (measurement-below p (h .big) i stream xs (h .below)) results-below

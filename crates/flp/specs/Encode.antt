@@ -124,8 +124,8 @@ module _ (F : Field) (i : PineParam) (gradient : List Float) (stream measurement
   encodeRules =
       paramAnswer F i
       ∷ rowRule 2 (length stream) (streamLen (i .«num_wr_tests») (i .dimension))
-      ∷ rowRule 3 (length measurement) (encodedInputLen i)
-      ∷ rowRule 4 (length results) (i .«num_wr_tests»)
+      ∷ rowRule 3 (length measurement) (F .wordsIn (encodedInputLen i))
+      ∷ rowRule 4 (length results) (F .wordsIn (i .«num_wr_tests»))
       ∷ coordinatesRule (F .floorLimit) (i .«frac_bits») 0 gradient
       ∷ gradientLenRule (length gradient) (i .dimension)
       ∷ trueSqNormRule (i .«true_sq_norm») (trueSqNorm (i .«frac_bits») gradient) (sqNormBound i)
@@ -140,5 +140,5 @@ module _ (F : Field) (i : PineParam) (gradient : List Float) (stream measurement
   unfoldable pub encodeOf : Encoded
   encodeOf =
       cond (eqb (encodeAnswer .number) 0)
-      (encodeOutcome encodeAnswer (measurementOf (F .p) i stream (elements (F .p) (i .«frac_bits») gradient)) (resultsOf (F .p) i stream (elements (F .p) (i .«frac_bits») gradient)))
+      (encodeOutcome encodeAnswer (F .words (measurementOf (F .p) i stream (elements (F .p) (i .«frac_bits») gradient))) (F .words (resultsOf (F .p) i stream (elements (F .p) (i .«frac_bits») gradient))))
       (encodeOutcome encodeAnswer measurement results)

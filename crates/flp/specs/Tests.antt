@@ -38,17 +38,17 @@ testOf p xs bytes = total p (weigh p (pairs bytes) xs)
 unfoldable pub testsOf : (p per T : ℕ) (stream xs : List ℕ) → List ℕ
 testsOf p per T stream xs = map (testOf p xs) (groups per T stream)
 
--- what `run_wr_tests` answers: tests alone, on gradient elements xs, with the results' row as found
-module _ (F : Field) (i : PineParam) (xs stream results : List ℕ) where
+-- what `run_wr_tests` answers: tests alone, on a row of gradient elements, with the results' row as found
+module _ (F : Field) (i : PineParam) (gradient stream results : List ℕ) where
   -- the rules in their order
   unfoldable pub runTestsRules : List Answer
   runTestsRules =
       paramAnswer F i
-      ∷ rowRule 1 (length xs) (i .dimension)
+      ∷ rowRule 1 (length gradient) (F .wordsIn (i .dimension))
       ∷ rowRule 2 (length stream) (streamLen (i .«num_wr_tests») (i .dimension))
-      ∷ rowRule 3 (length results) (i .«num_wr_tests»)
-      ∷ elementsRule (F .p) xs
+      ∷ rowRule 3 (length results) (F .wordsIn (i .«num_wr_tests»))
+      ∷ elementsRule (F .p) (F .elements gradient)
       ∷ []
 
   unfoldable pub runTestsOf : Outcome
-  runTestsOf = finish (inOrder runTestsRules) (testsOf (F .p) (bytesPerTest (i .dimension)) (i .«num_wr_tests») stream xs) results
+  runTestsOf = finish (inOrder runTestsRules) (F .words (testsOf (F .p) (bytesPerTest (i .dimension)) (i .«num_wr_tests») stream (F .elements gradient))) results

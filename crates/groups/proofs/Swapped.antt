@@ -3,7 +3,7 @@ use mathlib.Core.Path.{_≡_, refl, sym, ap, _∙_}
 use mathlib.Core.Bool.{Bool, true, false, cond}
 use mathlib.Core.List.{List, [], _∷_}
 use Prim.Native.Nat.{ℕ, zero, suc, _+_, _-_, _*_, _/_, _%_, _≤_, _<_, min}
-use native.Mathlib.Nat.{mod-self, zero-mod, mod-eq-of-lt}
+use native.Mathlib.Nat.{mod-self, zero-mod, mod-eq-of-lt, sub-zero}
 use native.Mathlib.Omega.{arith}
 use lib.ListN.{length, getD, take, drop, replicate, length-take, length-drop, length-replicate}
 use lib.Seq.{take-nil, drop-nil, take-all, take-take, drop-drop, length-take-le}
@@ -154,6 +154,10 @@ pub part-long : {A : Type 0} (first last : ℕ) (xs : List A) → first ≤ last
 part-long first last xs h l =
     let e : last - first ≤ length (drop first xs) = rw (length-drop first xs) (omega arith) in
     length-take-le (last - first) (drop first xs) e
+
+-- as many of a row that is lent
+pub row-long : (n : ℕ) (row : List ℕ) → n ≤ length row → length (take (n - 0) row) ≡ n
+row-long n row h = rw (sub-zero n) (length-take-le n row h)
 
 -- the room that it takes
 pub room-few : (tests n : ℕ) → tests ≤ 6 → roomFor tests n ≡ 4 * n

@@ -1,6 +1,6 @@
 -- What is written for a load. Assumes nothing.
 use mathlib.Core.Path.{_≡_, refl, sym, ap, _∙_}
-use mathlib.Core.Bool.{Bool, true, false, cond}
+use mathlib.Core.Bool.{false}
 use mathlib.Core.List.{List, [], _∷_, _++_, append-assoc, append-nil}
 use mathlib.Core.Option.{Option}
 use Prim.Native.Nat.{ℕ, suc, _+_, _-_, _*_, _≤_, _<_}
@@ -21,11 +21,11 @@ use Rattle.rows.proofs.Lengths.{row-right}
 use Rattle.octets.specs.Octets.{elementBytes, pasted}
 use Rattle.octets.proofs.Bytes.{length-elementBytes}
 use Rattle.pine.specs.declared.PineParam.{PineParam}
-use Rattle.pine.specs.Param.{Field, Field64, paramRulesUpTo, paramRules, paramAnswer}
+use Rattle.pine.specs.Param.{Field64, paramRulesUpTo, paramRules, paramAnswer}
 use Rattle.pine.specs.Record.{wrTestBits, bitCheckedLen, encodedInputLen, bytesPerTest, streamLen}
 use Rattle.pine.proofs.Sizes.{sizes-64}
-use Rattle.flp.specs.Encode.{elements, resultsOf, measurementOf, Encoded, encodeOutcome, encodeAnswer, encodeOf}
-use Rattle.flp.proofs.Fresh.{encode-answers, encode-fresh}
+use Rattle.flp.specs.Encode.{Encoded, encodeOutcome, encodeAnswer}
+use Rattle.flp.proofs.Fresh.{encode-answer, encode-answers, encode-fresh}
 use Rattle.load_draws.specs.Draws.{gradientOf, streamOf}
 use Rattle.load_text.specs.Text.{loadLimits, numbersOf}
 use Rattle.load_text.proofs.Sense.{long-text}
@@ -100,14 +100,6 @@ inputs-passed seed i h = passed (earlyRules seed i) h .0
 
 -- ---- what is written
 
-answer-of : (F : Field) (i : PineParam) (g : List Float) (s m r : List ℕ) → encodeOf F i g s m r .answer ≡ encodeAnswer F i g s m r
-unfolding encodeOf
-answer-of F i g s m r = go (eqb (encodeAnswer F i g s m r .number) 0)
-  where
-    go : (t : Bool) → cond t (encodeOutcome (encodeAnswer F i g s m r) (measurementOf (F .p) i s (elements (F .p) (i .«frac_bits») g)) (resultsOf (F .p) i s (elements (F .p) (i .«frac_bits») g))) (encodeOutcome (encodeAnswer F i g s m r) m r) .answer ≡ encodeAnswer F i g s m r
-    go true = refl
-    go false = refl
-
 module _ (seed : ℕ) (i : PineParam) where
   abbrev early : Answer
   early = inOrder (earlyRules seed i)
@@ -144,11 +136,11 @@ module _ (seed : ℕ) (i : PineParam) where
     as-long-r = lr ∙ sym (length-replicate {A = ℕ} (i .«num_wr_tests») 0)
 
     answer-is : a ≡ encodeAnswer Field64 i g s m r
-    answer-is = ap (λ (x : Encoded). x .answer) e ∙ answer-of Field64 i g s m r
+    answer-is = ap (λ (x : Encoded). x .answer) e ∙ encode-answer Field64 i g s m r
 
     same-answer : encodedOf seed i .answer ≡ a
     unfolding encodedOf
-    same-answer = answer-of Field64 i g s m₀ r₀ ∙ sym (encode-answers Field64 i g s m m₀ r r₀ as-long-m as-long-r) ∙ sym answer-is
+    same-answer = encode-answer Field64 i g s m₀ r₀ ∙ sym (encode-answers Field64 i g s m m₀ r r₀ as-long-m as-long-r) ∙ sym answer-is
 
     rules-are : inOrder (loadRules seed i) ≡ first a accepted
     rules-are = whole ∙ first-passed early (first (encodedOf seed i .answer) accepted) passes ∙ ap (λ (b : Answer). first b accepted) same-answer

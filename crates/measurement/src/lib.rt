@@ -99,7 +99,7 @@ fn write_tests(w: usize, bound: u64, successes: u64, results: &[u64], row: &mut 
 
 // Writes what follows the gradient over the rest of the row: v and u as bits, then, past these, the
 // test bits.
-fn write_checked(
+pub fn write_checked(
     q: usize,
     v: u64,
     u: u64,

@@ -6,8 +6,8 @@ use pine::record::Pine;
 use rules::Answer;
 ghost use mathlib.Core.Path.{_≡_};
 ghost use Rattle.rules.specs.Rules.{refuse, first, inOrder, outOf};
-ghost use Rattle.pine.specs.Param.{Field64, alphaRule, paramRulesUpTo, paramAnswer};
-ghost use Rattle.pine.specs.Record.{deriveOf};
+ghost use Rattle.pine.specs.Param.{Field64, alphaRule, paramRulesWithin, paramRulesUpTo, paramAnswer};
+ghost use Rattle.pine.specs.Record.{Answered, derivedBeside, deriveOf};
 
 // The rule, at place 0, that x is from 1 to max.
 fn limit(x: u64, max: u64, number: u64) -> Answer
@@ -25,16 +25,21 @@ fn check_alpha(numerator: u16, denominator: u16) -> Answer
     above.or(below)
 }
 
-// Rules 1 to 6, then 19, for a dimension and a number of tests up to these.
-pub fn check_param_up_to(param: PineParam, max_dimension: u64, max_wr_tests: u64) -> Answer
-    ensures { λ r. ⌜ r ≡ inOrder (paramRulesUpTo Field64 «max_dimension» «max_wr_tests» param) ⌝ }
+// Rules 1 to 6, then 19, for a norm bound, which a field limits, a dimension and a number of tests up to these.
+pub fn check_param_within(
+    param: PineParam,
+    max_norm_bound: u64,
+    max_dimension: u64,
+    max_wr_tests: u64,
+) -> Answer
+    ensures { λ r. ⌜ r ≡ inOrder (paramRulesWithin «max_norm_bound» «max_dimension» «max_wr_tests» param) ⌝ }
 {
     let successes = Answer::refuse_if(
         param.num_wr_tests < param.num_wr_successes,
         rules::NUM_WR_SUCCESSES,
         0,
     );
-    let norm_bound = limit(param.norm_bound, 3037000499, rules::NORM_BOUND);
+    let norm_bound = limit(param.norm_bound, max_norm_bound, rules::NORM_BOUND);
     let dimension = limit(param.dimension, max_dimension, rules::DIMENSION);
     let frac_bits = doubles::check_frac_bits(param.frac_bits);
     let chunk_len = limit(param.chunk_len, 65536, rules::CHUNK_LEN);
@@ -45,6 +50,13 @@ pub fn check_param_up_to(param: PineParam, max_dimension: u64, max_wr_tests: u64
     successes.or(norm_bound.or(dimension.or(frac_bits.or(chunks))))
 }
 
+// The same over Field64.
+pub fn check_param_up_to(param: PineParam, max_dimension: u64, max_wr_tests: u64) -> Answer
+    ensures { λ r. ⌜ r ≡ inOrder (paramRulesUpTo Field64 «max_dimension» «max_wr_tests» param) ⌝ }
+{
+    check_param_within(param, 3037000499, max_dimension, max_wr_tests)
+}
+
 // Rules 1 to 6, then 19.
 pub fn check_param(param: PineParam) -> Answer
     ensures { λ r. ⌜ r ≡ paramAnswer Field64 param ⌝ }
@@ -52,11 +64,11 @@ pub fn check_param(param: PineParam) -> Answer
     check_param_up_to(param, 65536, 256)
 }
 
-// The record and every length, from the inputs.
-pub fn derive(param: PineParam) -> Derived
-    ensures { λ r. ⌜ r ≡ deriveOf Field64 param ⌝ }
+// The record and every length beside the answer on the inputs, over any field.
+pub fn derive_beside(answer: Answer, param: PineParam) -> Derived
+    requires { ⌜ Answered param answer ⌝ }
+    ensures { λ r. ⌜ r ≡ derivedBeside answer param ⌝ }
 {
-    let answer = check_param(param);
     if answer.number != 0 {
         return Derived {
             answer,
@@ -74,4 +86,11 @@ pub fn derive(param: PineParam) -> Derived
         flp: pine.lengths(),
         flp_sq_norm_equal: pine.lengths_sq_norm_equal(),
     }
+}
+
+// The record and every length, from the inputs.
+pub fn derive(param: PineParam) -> Derived
+    ensures { λ r. ⌜ r ≡ deriveOf Field64 param ⌝ }
+{
+    derive_beside(check_param(param), param)
 }

@@ -5,13 +5,12 @@ use Prim.Native.Nat.{ℕ, _+_, _≤_}
 use native.Mathlib.Omega.{arith}
 use lib.ListN.{length, take, drop, length-drop}
 use lib.Seq.{length-take-le}
-use Rattle.field64.specs.Field.{p64}
 use Rattle.pine.specs.declared.PineParam.{PineParam}
 use Rattle.pine.specs.declared.record.Pine.{Pine}
 use Rattle.pine.specs.Record.{bitCheckedLen, encodedInputLen, inputLen, pineOf}
 use Rattle.rows.specs.Rows.{Below}
 use Rattle.rows.proofs.Elements.{below-take, below-drop}
-use Rattle.pine.specs.Param.{Field64}
+use Rattle.pine.specs.Param.{Field}
 use Rattle.flp.specs.Circuits.{gradientPart, checkedPart, resultsPart, FullVector}
 use Rattle.parts.specs.Places.{gradientIn, checkedIn, resultsIn}
 
@@ -37,12 +36,12 @@ cut-length s n xs h =
     let l : n ≤ length (drop s xs) = rw (length-drop s xs) (omega arith) in
     length-take-le n (drop s xs) l
 
-cut-below : (s n : ℕ) (xs : List ℕ) → Below p64 xs → Below p64 (take n (drop s xs))
-cut-below s n xs h = below-take p64 n (drop s xs) (below-drop p64 s xs h)
+cut-below : (p s n : ℕ) (xs : List ℕ) → Below p xs → Below p (take n (drop s xs))
+cut-below p s n xs h = below-take p n (drop s xs) (below-drop p s xs h)
 
--- ---- by the record
+-- ---- by the record, over any field
 
-module _ (i : PineParam) (full : List ℕ) (v : FullVector Field64 i full) (r : Pine) (e : r ≡ pineOf i) where
+module _ {F : Field} (i : PineParam) (full : List ℕ) (v : FullVector F i full) (r : Pine) (e : r ≡ pineOf i) where
   pub gradient-inside : r .dimension ≤ length full
   unfolding pineOf
   gradient-inside = rw (e, v .long) (omega (arith, gradient-ends i))
@@ -69,8 +68,8 @@ module _ (i : PineParam) (full : List ℕ) (v : FullVector Field64 i full) (r : 
     pub checked-length : length xs ≡ r .«bit_checked_len»
     checked-length = ap length h ∙ cut-length (r .dimension) (r .«bit_checked_len») full checked-inside
 
-    pub checked-below : Below p64 xs
-    checked-below = rw h (cut-below (r .dimension) (r .«bit_checked_len») full (v .below))
+    pub checked-below : Below (F .p) xs
+    checked-below = rw h (cut-below (F .p) (r .dimension) (r .«bit_checked_len») full (v .below))
 
     pub checked-is : xs ≡ checkedPart i full
     unfolding checkedPart pineOf
@@ -80,8 +79,8 @@ module _ (i : PineParam) (full : List ℕ) (v : FullVector Field64 i full) (r : 
     pub results-length : length xs ≡ r .«num_wr_tests»
     results-length = ap length h ∙ cut-length (r .«encoded_input_len») (r .«num_wr_tests») full results-inside
 
-    pub results-below : Below p64 xs
-    results-below = rw h (cut-below (r .«encoded_input_len») (r .«num_wr_tests») full (v .below))
+    pub results-below : Below (F .p) xs
+    results-below = rw h (cut-below (F .p) (r .«encoded_input_len») (r .«num_wr_tests») full (v .below))
 
     pub results-is : xs ≡ resultsPart i full
     unfolding resultsPart pineOf

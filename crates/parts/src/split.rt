@@ -7,7 +7,7 @@ ghost use lib.ListN.{length, take, drop};
 ghost use Rattle.parts.specs.Places.{gradientIn, checkedIn, resultsIn};
 
 // len elements of a row, from start on.
-fn between<'a>(row: &'a [u64], start: u64, len: u64) -> &'a [u64]
+pub fn between<'a>(row: &'a [u64], start: u64, len: u64) -> &'a [u64]
     requires { ⌜ start + len ≤ length (now row) ⌝ }
     ensures { λ r. ⌜ now r ≡ take len (drop start (now (row .entry))) ⌝ }
 {

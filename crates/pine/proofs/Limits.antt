@@ -1,16 +1,18 @@
 -- What inputs that are accepted have met. Assumes nothing.
-use mathlib.Core.Path.{_≡_, refl, ap}
+use mathlib.Core.Path.{_≡_, refl}
 use mathlib.Core.Bool.{Bool, true, false, _||_}
 use Prim.Native.Nat.{ℕ, _≤_, _<_}
+use native.Mathlib.Nat.{le-trans}
+use native.Mathlib.Omega.{arith}
 use lib.Dec.{eqb}
-use borrow.Author.Tests.{ltb-false, le-ltb}
-use Rattle.rules.specs.Rules.{accepted, refuse}
-use Rattle.rules.proofs.Chain.{passed, not-so, inside, accepted-whole}
+use borrow.Author.Tests.{ltb-false, ne-eqb, le-ltb}
+use Rattle.rules.specs.Rules.{accepted, refuse, outOf}
+use Rattle.rules.proofs.Chain.{passed, accepts, none, not-so, inside, accepted-whole}
 use Rattle.pine.specs.declared.PineParam.{PineParam}
 use Rattle.pine.specs.Param.{Field, Field64, alphaRule, paramRules, paramAnswer}
 
 -- Field64, written out
-pub field-64 : Field64 ≡ record { p = 18446744069414584321; floorLimit = 9223372034707292160; normLimit = 3037000499 }
+pub field-64 : Field64 ≡ record { p = 18446744069414584321; floorLimit = 9223372034707292160; sizeLimit = 9223372034707292160; normLimit = 3037000499; wordsIn = λ n. n; elements = λ row. row; words = λ xs. xs }
 field-64 = refl
 
 -- a number of 16 bits is refused where it is 0
@@ -53,3 +55,14 @@ module _ (F : Field) (i : PineParam) where
   pub param-accepted : paramAnswer F i .number ≡ 0 → paramAnswer F i ≡ accepted
   unfolding paramAnswer
   param-accepted h = accepted-whole (paramRules F i) h
+
+-- inputs accepted over a field are accepted over one with a larger norm bound
+pub widened : (F G : Field) → F .normLimit ≤ G .normLimit → (i : PineParam) → paramAnswer F i ≡ accepted → paramAnswer G i ≡ accepted
+unfolding paramAnswer paramRules
+widened F G wider i h =
+    let r = passed (paramRules F i) (none h) in
+    let l = inside _ _ 1 0 (r .1 .0) in
+    accepts (paramRules G i) (r .0, (in-limits (i .«norm_bound») (G .normLimit) (l .0) (le-trans (l .1) wider), r .1 .1))
+  where
+    in-limits : (n m : ℕ) → 0 < n → n ≤ m → refuse (outOf n m) 2 0 .number ≡ 0
+    in-limits n m h g = rw (ne-eqb n 0 (λ e. omega arith), le-ltb m n g)

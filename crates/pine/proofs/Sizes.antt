@@ -1,21 +1,22 @@
 -- What follows for the record of accepted inputs: the derived numbers are what they are called, and none of them can overflow. Assumes nothing.
 use mathlib.Core.Path.{_≡_, refl, sym, ap, _∙_}
-use mathlib.Core.Logic.{_⊎_, inl, inr}
-use Prim.Native.Nat.{ℕ, suc, _+_, _-_, _*_, _/_, _^_, _≤_, _<_}
-use native.Mathlib.Nat.{le-of-eq, mul-le-mul, mul-pos, le-refl, le-trans, lt-of-le-of-lt, eq-zero-or-pos, pow-suc}
+use Prim.Native.Nat.{ℕ, _+_, _*_, _^_, _≤_, _<_}
+use native.Mathlib.Nat.{le-of-eq, mul-le-mul, mul-pos, le-trans, lt-of-le-of-lt}
 use native.Mathlib.Omega.{arith}
 use lib.Dec.{lit<, lit≤}
 use lib.Pow.{pow-pos, pow-mono}
 use Rattle.field64.specs.Field.{p64}
+use Rattle.rules.specs.declared.Answer.{Answer}
 use Rattle.rules.specs.Rules.{accepted}
+use Rattle.rules.proofs.Chain.{none}
 use Rattle.doubles.specs.Doubles.{power}
 use Rattle.pine.specs.declared.PineParam.{PineParam}
 use Rattle.pine.specs.declared.record.Pine.{Pine}
 use Rattle.pine.specs.Param.{Field, Field64, paramAnswer}
-use Rattle.pine.specs.Record.{ceilDiv, digits, sqNormBound, sqNormBits, wrTestBound, wrTestExponent, wrTestBits, bitCheckedLen, encodedInputLen, inputLen, gadgetCalls, gadgetCallsNorm, pineOf, boundIn, FromAccepted, proofLen, lengthsMain}
+use Rattle.pine.specs.Record.{ceilDiv, digits, sqNormBound, sqNormBits, wrTestBound, wrTestExponent, wrTestBits, bitCheckedLen, encodedInputLen, inputLen, gadgetCalls, gadgetCallsNorm, pineOf, boundIn, FromAccepted, Derivable, Answered, FromDerivable, proofLen, lengthsMain}
 use Rattle.pine.proofs.Digits.{digits-above, digits-least, digits-twice, digits-power, digits-positive, ceil-le, ceil-pos}
 use Rattle.pine.proofs.Exponent.{digits-below, bound-some, exponent-room}
-use Rattle.pine.proofs.Limits.{Limits, limits}
+use Rattle.pine.proofs.Limits.{Limits, limits, param-accepted}
 
 -- ---- the derived numbers are what they are called
 module _ (i : PineParam) where
@@ -174,32 +175,71 @@ module _ (F : Field) (i : PineParam) (narrow : F .normLimit ≤ 4294967295) (l :
         proof = rw w refl;
       }
 
--- ---- Field64 has room
+-- ---- inputs from which a record can be derived
+module _ (F : Field) (narrow : F .normLimit ≤ 4294967295) where
+  pub derivable : {i : PineParam} → paramAnswer F i ≡ accepted → Derivable i
+  derivable e = record { F = F; narrow = narrow; accepts = e }
+
+  pub derived : {r : Pine} → FromAccepted F r → FromDerivable r
+  derived f = record { param = f .param; derivable = derivable (f .accepts); is = f .is }
+
+module _ (i : PineParam) (d : Derivable i) where
+  pub limits-of : Limits (d .F) i
+  limits-of = limits (d .F) i (none (d .accepts))
+
+  pub sizes-of : Sizes i
+  sizes-of = sizes (d .F) i (d .narrow) limits-of
+
+  pub recovered-of : Recovered i
+  recovered-of = recovered (d .F) i (d .narrow) limits-of
+
+-- an answer whose number is 0 accepts such inputs
+pub answered : {i : PineParam} {a : Answer} → Answered i a → a .number ≡ 0 → (a ≡ accepted) × Derivable i
+answered {i = i} r h =
+    let e = param-accepted (r .F) i (sym (ap (λ (a : Answer). a .number) (r .is)) ∙ h) in
+    (r .is ∙ e, derivable (r .F) (r .narrow) e)
+
+-- 2b is below a modulus above 2 ^ 49
+pub bound-below : (p : ℕ) → 2 ^ 49 < p → (i : PineParam) → Derivable i → 2 * wrTestBound i < p
+bound-below p room i d =
+    let h : 2 * wrTestBound i ≤ 2 ^ 49 = omega (arith, sizes-of i d .bound) in
+    lt-of-le-of-lt h room
+
+-- B is below one that is above the square of the largest norm bound
+pub norm-below : (F : Field) → F .normLimit * F .normLimit < F .p → (i : PineParam) → paramAnswer F i ≡ accepted → sqNormBound i < F .p
+unfolding sqNormBound
+norm-below F room i e =
+    let l = limits F i (none e) .norm .1 in
+    lt-of-le-of-lt (mul-le-mul l l) room
+
+-- ---- Field64's
+pub derivable-64 : {i : PineParam} → paramAnswer Field64 i ≡ accepted → Derivable i
+derivable-64 = derivable Field64 (lit≤ tt)
+
+pub derived-64 : {r : Pine} → FromAccepted Field64 r → FromDerivable r
+derived-64 = derived Field64 (lit≤ tt)
+
 pub limits-64 : (i : PineParam) → paramAnswer Field64 i ≡ accepted → Limits Field64 i
-limits-64 i e = limits Field64 i (ap (λ a. a .number) e)
+limits-64 i e = limits Field64 i (none e)
 
 pub sizes-64 : (i : PineParam) → paramAnswer Field64 i ≡ accepted → Sizes i
-sizes-64 i e = sizes Field64 i (lit≤ tt) (limits-64 i e)
+sizes-64 i e = sizes-of i (derivable-64 e)
 
 pub recovered-64 : (i : PineParam) → paramAnswer Field64 i ≡ accepted → Recovered i
-recovered-64 i e = recovered Field64 i (lit≤ tt) (limits-64 i e)
+recovered-64 i e = recovered-of i (derivable-64 e)
 
--- 2b is below p, and so is B
 pub bound-64 : (i : PineParam) → paramAnswer Field64 i ≡ accepted → 2 * wrTestBound i < p64
-bound-64 i e = omega (arith, sizes-64 i e .bound)
+bound-64 i e = bound-below p64 (lit< tt) i (derivable-64 e)
 
 pub norm-64 : (i : PineParam) → paramAnswer Field64 i ≡ accepted → sqNormBound i < p64
-unfolding sqNormBound
-norm-64 i e =
-    let l = limits-64 i e .norm .1 in
-    lt-of-le-of-lt (mul-le-mul l l) (lit< tt)
+norm-64 = norm-below Field64 (lit< tt)
 
 -- ---- the record's scale is that of its own fractional bits
 pub scale-is : (i : PineParam) (r : Pine) → r ≡ pineOf i → r .scale ≡ power (r .«frac_bits»)
 unfolding pineOf
 scale-is i r e = rw e
 
--- ---- a record that was derived from accepted inputs
+-- ---- a record that was derived from such inputs
 pub record Small (r : Pine) : Type 0 where
   pub dimension : r .dimension ≤ 65536
   pub tests : r .«num_wr_tests» ≤ 256
@@ -208,9 +248,9 @@ pub record Small (r : Pine) : Type 0 where
   pub calls : r .«gadget_calls» ≤ 2 * 64 + 50 * 256 + 256
   pub calls-norm : r .«gadget_calls_sq_norm_equal» ≤ 65536
 
-pub small : (r : Pine) → FromAccepted Field64 r → Small r
+pub small : (r : Pine) → FromDerivable r → Small r
 unfolding pineOf
 small r f =
-    let l = limits-64 (f .param) (f .accepts) in
-    let s = sizes-64 (f .param) (f .accepts) in
+    let l = limits-of (f .param) (f .derivable) in
+    let s = sizes-of (f .param) (f .derivable) in
     rw (f .is) (record { dimension = l .dimension .1; tests = l .tests .1; chunk = l .chunk .1; chunk-norm = l .chunk-norm .1; calls = s .calls; calls-norm = s .calls-norm })

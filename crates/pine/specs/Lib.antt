@@ -1,2 +1,3 @@
 pub mod Param
 pub mod Record
+pub mod Words

@@ -6,19 +6,33 @@ use lib.Dec.{ltb}
 use Rattle.rules.specs.declared.Answer.{Answer}
 use Rattle.rules.specs.Rules.{refuse, inOrder, outOf}
 use Rattle.field64.specs.Field.{p64}
-use Rattle.doubles.specs.Doubles.{fracBitsRule, floorLimit64}
+use Rattle.doubles.specs.Doubles.{fracBitsRule, floorLimit64, sizeLimit64}
 use Rattle.pine.specs.declared.PineParam.{PineParam}
 use Rattle.pine.specs.declared.WrTestRule.{WrTestRule}
 use Rattle.pine.specs.declared.WrTestRule.the-variants.{Every}
 
--- what the calls need to know of a field: its modulus, how far from 0 the floor of a coordinate may lie, and the largest norm bound that is allowed over it
+-- what the calls need to know of a field: its modulus; how far from 0 the floor of a coordinate may lie, and a centred number that is decoded; the largest norm bound
+-- that is allowed over it; and its rows. A caller's row of elements is a row of words: how many words n elements have, the elements of a row of words, and the words of elements
 pub record Field : Type 0 where
   pub p : ℕ
   pub floorLimit : ℕ
+  pub sizeLimit : ℕ
   pub normLimit : ℕ
+  pub wordsIn : ℕ → ℕ
+  pub elements : List ℕ → List ℕ
+  pub words : List ℕ → List ℕ
 
+-- an element is one word
 abbrev pub Field64 : Field
-Field64 = record { p = p64; floorLimit = floorLimit64; normLimit = 3037000499 }
+Field64 = record {
+  p = p64;
+  floorLimit = floorLimit64;
+  sizeLimit = sizeLimit64;
+  normLimit = 3037000499;
+  wordsIn = λ n. n;
+  elements = λ row. row;
+  words = λ xs. xs;
+}
 
 -- the inputs with which all is as in the original: the multiplier 87 / 10, which its ALPHA is; every test in range; no bound of the true squared norm
 abbrev pub standard : (n d f c e T K : ℕ) → PineParam
@@ -64,11 +78,11 @@ chunkRule c = refuse (outOf c 65536) 5 0
 abbrev pub alphaRule : ℕ → Answer
 alphaRule a = refuse (outOf a 65535) 19 0
 
--- the rules on the inputs, in their order, for a dimension up to D and up to M tests
-abbrev pub paramRulesUpTo : Field → (D M : ℕ) → PineParam → List Answer
-paramRulesUpTo F D M i =
+-- the rules on the inputs, in their order, for a norm bound up to N, a dimension up to D and up to M tests
+abbrev pub paramRulesWithin : (N D M : ℕ) → PineParam → List Answer
+paramRulesWithin N D M i =
     refuse (ltb (i .«num_wr_tests») (i .«num_wr_successes»)) 1 0
-    ∷ refuse (outOf (i .«norm_bound») (F .normLimit)) 2 0
+    ∷ refuse (outOf (i .«norm_bound») N) 2 0
     ∷ refuse (outOf (i .dimension) D) 3 0
     ∷ fracBitsRule (i .«frac_bits»)
     ∷ chunkRule (i .«chunk_len»)
@@ -77,6 +91,10 @@ paramRulesUpTo F D M i =
     ∷ alphaRule (i .«alpha_numerator»)
     ∷ alphaRule (i .«alpha_denominator»)
     ∷ []
+
+-- the same over a field
+abbrev pub paramRulesUpTo : Field → (D M : ℕ) → PineParam → List Answer
+paramRulesUpTo F D M i = paramRulesWithin (F .normLimit) D M i
 
 -- the same for as many as every call takes
 unfoldable pub paramRules : Field → PineParam → List Answer

@@ -1,5 +1,5 @@
 -- What is derived from the inputs (docs/PINE.md, "The record"). Assumes nothing.
-use Prim.Native.Nat.{ℕ, zero, suc, _+_, _-_, _*_, _/_, _^_}
+use Prim.Native.Nat.{ℕ, zero, suc, _+_, _-_, _*_, _/_, _^_, _≤_}
 use mathlib.Core.Bool.{cond}
 use mathlib.Core.Path.{_≡_}
 use lib.Dec.{eqb}
@@ -121,6 +121,24 @@ pub record FromAccepted (F : Field) (r : Pine) : Type 0 where
   pub accepts : paramAnswer F param ≡ accepted
   pub is : r ≡ pineOf param
 
+-- inputs from which a record can be derived, whatever the field: accepted over one whose norm bounds have 32 bits, so that a squared one has 64
+pub record Derivable (i : PineParam) : Type 0 where
+  pub F : Field
+  pub narrow : F .normLimit ≤ 4294967295
+  pub accepts : paramAnswer F i ≡ accepted
+
+-- the answer a on the inputs, over such a field
+pub record Answered (i : PineParam) (a : Answer) : Type 0 where
+  pub F : Field
+  pub narrow : F .normLimit ≤ 4294967295
+  pub is : a ≡ paramAnswer F i
+
+-- a record that was derived from inputs from which it can be
+pub record FromDerivable (r : Pine) : Type 0 where
+  pub param : PineParam
+  pub derivable : Derivable param
+  pub is : r ≡ pineOf param
+
 -- ---- lengths of a circuit whose one gadget, of degree 2, has `arity` inputs and is called `calls` times (as in each `Type` of the Rust)
 
 abbrev pub proofLen : (arity calls : ℕ) → ℕ
@@ -180,9 +198,13 @@ noPine = record {
 abbrev pub noLengths : Lengths
 noLengths = record { «input_len» = 0; «proof_len» = 0; «verifier_len» = 0; «joint_rand_len» = 0; «prove_rand_len» = 0; «query_rand_len» = 0 }
 
+-- what is derived from the inputs, beside the answer a on them
+abbrev pub derivedBeside : Answer → PineParam → Derived
+derivedBeside a i =
+    cond (eqb (a .number) 0)
+    (record { answer = accepted; pine = pineOf i; «stream_len» = streamLen (i .«num_wr_tests») (i .dimension); flp = lengthsMain (pineOf i); «flp_sq_norm_equal» = lengthsNorm (pineOf i) })
+    (record { answer = a; pine = noPine; «stream_len» = 0; flp = noLengths; «flp_sq_norm_equal» = noLengths })
+
 -- what `derive` answers
 unfoldable pub deriveOf : Field → PineParam → Derived
-deriveOf F i =
-    cond (eqb (paramAnswer F i .number) 0)
-    (record { answer = accepted; pine = pineOf i; «stream_len» = streamLen (i .«num_wr_tests») (i .dimension); flp = lengthsMain (pineOf i); «flp_sq_norm_equal» = lengthsNorm (pineOf i) })
-    (record { answer = paramAnswer F i; pine = noPine; «stream_len» = 0; flp = noLengths; «flp_sq_norm_equal» = noLengths })
+deriveOf F i = derivedBeside (paramAnswer F i) i

@@ -1,11 +1,10 @@
 // Internal: the derived record, which answers for its own lengths. A function here asks its caller
-// for accepted inputs, or for a record that was derived from such; params::derive tests them.
+// for accepted inputs, or for a record that was derived from such; params::derive tests them. It serves
+// every field whose norm bounds have 32 bits: the record and the lengths, in elements, are the same.
 use crate::PineParam;
 ghost use mathlib.Core.Path.{_≡_};
 ghost use Prim.Native.Nat.{_+_, _*_, _^_, _<_, _≤_};
-ghost use Rattle.rules.specs.Rules.{accepted};
-ghost use Rattle.pine.specs.Param.{Field64, paramAnswer};
-ghost use Rattle.pine.specs.Record.{digits, ceilDiv, powerAbove, testExponentOf, boundIn, proofLen, verifierLen, proveRandLen, streamLen, pineOf, FromAccepted, noPine, noLengths, lengthsMain, lengthsNorm};
+ghost use Rattle.pine.specs.Record.{digits, ceilDiv, powerAbove, testExponentOf, boundIn, proofLen, verifierLen, proveRandLen, streamLen, pineOf, Derivable, FromDerivable, noPine, noLengths, lengthsMain, lengthsNorm};
 
 // The derived record: the inputs that later calls read, and what follows from them.
 #[repr(C)]
@@ -66,7 +65,7 @@ fn power_above(n: u64) -> u64
 
 // The exponent of the smallest power of two not below ceil(numerator · norm_bound / denominator) + 1.
 fn wr_test_exponent(numerator: u16, denominator: u16, norm_bound: u64) -> u8
-    requires { ⌜ (0 < denominator) × («norm_bound» ≤ 3037000499) ⌝ }
+    requires { ⌜ (0 < denominator) × («norm_bound» ≤ 4294967295) ⌝ }
     ensures { λ r. ⌜ r ≡ testExponentOf numerator denominator «norm_bound» ⌝ }
 {
     let num = numerator as u64;
@@ -84,7 +83,7 @@ fn proof_len(arity: u64, calls: u64) -> u64
 
 impl Pine {
     pub fn new(param: PineParam) -> Pine
-        requires { ⌜ paramAnswer Field64 param ≡ accepted ⌝ }
+        requires { ⌜ Derivable param ⌝ }
         ensures { λ r. ⌜ r ≡ pineOf param ⌝ }
     {
         let sq_norm_bound = param.norm_bound * param.norm_bound;
@@ -155,7 +154,7 @@ impl Pine {
 
     // The bytes of the stream: for each test a pair of bits for each coordinate, in whole bytes.
     pub fn stream_len(self) -> u64
-        requires { ⌜ FromAccepted Field64 self ⌝ }
+        requires { ⌜ FromDerivable self ⌝ }
         ensures { λ r. ⌜ r ≡ streamLen (self .«num_wr_tests») (self .dimension) ⌝ }
     {
         self.num_wr_tests * chunk_count(4, self.dimension)
@@ -170,14 +169,14 @@ impl Pine {
     }
 
     pub fn proof_len(self) -> u64
-        requires { ⌜ FromAccepted Field64 self ⌝ }
+        requires { ⌜ FromDerivable self ⌝ }
         ensures { λ r. ⌜ r ≡ proofLen (2 * self .«chunk_len») (self .«gadget_calls») ⌝ }
     {
         proof_len(2 * self.chunk_len, self.gadget_calls)
     }
 
     pub fn verifier_len(self) -> u64
-        requires { ⌜ FromAccepted Field64 self ⌝ }
+        requires { ⌜ FromDerivable self ⌝ }
         ensures { λ r. ⌜ r ≡ verifierLen (2 * self .«chunk_len») ⌝ }
     {
         2 * self.chunk_len + 2
@@ -190,7 +189,7 @@ impl Pine {
     }
 
     pub fn prove_rand_len(self) -> u64
-        requires { ⌜ FromAccepted Field64 self ⌝ }
+        requires { ⌜ FromDerivable self ⌝ }
         ensures { λ r. ⌜ r ≡ proveRandLen (2 * self .«chunk_len») ⌝ }
     {
         2 * self.chunk_len
@@ -211,7 +210,7 @@ impl Pine {
     }
 
     pub fn proof_len_sq_norm_equal(self) -> u64
-        requires { ⌜ FromAccepted Field64 self ⌝ }
+        requires { ⌜ FromDerivable self ⌝ }
         ensures { λ r. ⌜ r ≡ proofLen (self .«chunk_len_sq_norm_equal») (self .«gadget_calls_sq_norm_equal») ⌝ }
     {
         proof_len(
@@ -221,7 +220,7 @@ impl Pine {
     }
 
     pub fn verifier_len_sq_norm_equal(self) -> u64
-        requires { ⌜ FromAccepted Field64 self ⌝ }
+        requires { ⌜ FromDerivable self ⌝ }
         ensures { λ r. ⌜ r ≡ verifierLen (self .«chunk_len_sq_norm_equal») ⌝ }
     {
         self.chunk_len_sq_norm_equal + 2
@@ -248,7 +247,7 @@ impl Pine {
     // All of the first, and all of the second.
 
     pub fn lengths(self) -> Lengths
-        requires { ⌜ FromAccepted Field64 self ⌝ }
+        requires { ⌜ FromDerivable self ⌝ }
         ensures { λ r. ⌜ r ≡ lengthsMain self ⌝ }
     {
         Lengths {
@@ -262,7 +261,7 @@ impl Pine {
     }
 
     pub fn lengths_sq_norm_equal(self) -> Lengths
-        requires { ⌜ FromAccepted Field64 self ⌝ }
+        requires { ⌜ FromDerivable self ⌝ }
         ensures { λ r. ⌜ r ≡ lengthsNorm self ⌝ }
     {
         Lengths {

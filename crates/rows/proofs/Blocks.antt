@@ -9,34 +9,33 @@ use lib.Seq.{take-all, length-take-le, getD-take, getD-drop}
 use lib.Dec.{ltb}
 use lib.Bits.{bitAnd, bitOr, and-shr, and-self, and-le-l, and-le-r, or-add-and, or-lt}
 use borrow.Author.Tests.{ltb-true, ltb-false}
-use Rattle.field64.specs.Field.{p64}
 use Rattle.rows.specs.Rows.{Below}
 use Rattle.rows.proofs.Elements.{below-all, below-at, below-take, below-drop}
 
--- ---- in Field64: an element that is not below p wraps when 2 ^ 32 - 1 is added
+-- ---- a word that is not below q wraps when g is added, q and g being 2 ^ 64 together
+module _ (q g x s : ℕ) (all : q + g ≡ 2 ^ 64) (small : g ≤ 2 ^ 63) (w : s ≡ (x + g) % 2 ^ 64) where
+  no-carry : x < 2 ^ 64 → bitAnd x (18446744073709551615 - s) < 2 ^ 63 → x < q
+  no-carry h k = go (ltb x q) refl
+    where
+      go : (t : Bool) → ltb x q ≡ t → x < q
+      go true e = ltb-true x q e
+      go false e =
+          let l : q ≤ x = ltb-false x q e in
+          let a : x / 2 ^ 63 ≡ 1 = omega arith in
+          let b : (18446744073709551615 - s) / 2 ^ 63 ≡ 1 = omega arith in
+          let o : bitAnd x (18446744073709551615 - s) / 2 ^ 63 ≡ bitAnd 1 1 = and-shr x _ 63 ∙ rw (a, b) in
+          absurd (omega (arith, o ∙ and-self 1))
 
-no-carry : (x s : ℕ) → x < 2 ^ 64 → s ≡ (x + 4294967295) % 2 ^ 64 → bitAnd x (18446744073709551615 - s) < 2 ^ 63 → x < p64
-no-carry x s h w k = go (ltb x p64) refl
-  where
-    go : (t : Bool) → ltb x p64 ≡ t → x < p64
-    go true e = ltb-true x p64 e
-    go false e =
-        let l : p64 ≤ x = ltb-false x p64 e in
-        let a : x / 2 ^ 63 ≡ 1 = omega arith in
-        let b : (18446744073709551615 - s) / 2 ^ 63 ≡ 1 = omega arith in
-        let o : bitAnd x (18446744073709551615 - s) / 2 ^ 63 ≡ bitAnd 1 1 = and-shr x _ 63 ∙ rw (a, b) in
-        absurd (omega (arith, o ∙ and-self 1))
-
--- and one below p does not
-no-carry-below : (x s : ℕ) → s ≡ (x + 4294967295) % 2 ^ 64 → x < p64 → bitAnd x (18446744073709551615 - s) < 2 ^ 63
-no-carry-below x s w h = go (ltb x (2 ^ 63)) refl
-  where
-    go : (t : Bool) → ltb x (2 ^ 63) ≡ t → bitAnd x (18446744073709551615 - s) < 2 ^ 63
-    go true e = omega (arith, ltb-true x _ e, and-le-l x (18446744073709551615 - s))
-    go false e =
-        let l : 2 ^ 63 ≤ x = ltb-false x _ e in
-        let b : 18446744073709551615 - s < 2 ^ 63 = omega arith in
-        omega (arith, and-le-r x (18446744073709551615 - s))
+  -- and one below q does not
+  no-carry-below : x < q → bitAnd x (18446744073709551615 - s) < 2 ^ 63
+  no-carry-below h = go (ltb x (2 ^ 63)) refl
+    where
+      go : (t : Bool) → ltb x (2 ^ 63) ≡ t → bitAnd x (18446744073709551615 - s) < 2 ^ 63
+      go true e = omega (arith, ltb-true x _ e, and-le-l x (18446744073709551615 - s))
+      go false e =
+          let l : 2 ^ 63 ≤ x = ltb-false x _ e in
+          let b : 18446744073709551615 - s < 2 ^ 63 = omega arith in
+          omega (arith, and-le-r x (18446744073709551615 - s))
 
 or-left : (a b : ℕ) → a ≤ bitOr a b
 or-left a b = omega (arith, or-add-and a b, and-le-r a b)
@@ -55,12 +54,12 @@ below-next n xs i f h j k = go (ltb j i) refl
         rw s h
 
 -- what `or_carry` gives
-pub carry-gives : (seen x s : ℕ) → x < 2 ^ 64 → s ≡ (x + 4294967295) % 2 ^ 64
-    → (bitOr seen (bitAnd x (18446744073709551615 - s)) < 2 ^ 63 → (seen < 2 ^ 63) × (x < p64)) × ((seen < 2 ^ 63) × (x < p64) → bitOr seen (bitAnd x (18446744073709551615 - s)) < 2 ^ 63)
-carry-gives seen x s h w =
+pub carry-gives : (q g seen x s : ℕ) → q + g ≡ 2 ^ 64 → g ≤ 2 ^ 63 → x < 2 ^ 64 → s ≡ (x + g) % 2 ^ 64
+    → (bitOr seen (bitAnd x (18446744073709551615 - s)) < 2 ^ 63 → (seen < 2 ^ 63) × (x < q)) × ((seen < 2 ^ 63) × (x < q) → bitOr seen (bitAnd x (18446744073709551615 - s)) < 2 ^ 63)
+carry-gives q g seen x s all small h w =
     let b = bitAnd x (18446744073709551615 - s) in (
-      λ k. (omega (arith, or-left seen b), no-carry x s h w (omega (arith, or-right seen b))),
-      λ k. or-lt 63 seen b (k .0) (no-carry-below x s w (k .1)),
+      λ k. (omega (arith, or-left seen b), no-carry q g x s all small w h (omega (arith, or-right seen b))),
+      λ k. or-lt 63 seen b (k .0) (no-carry-below q g x s all small w (k .1)),
     )
 
 -- ---- a row of which the first i elements were seen

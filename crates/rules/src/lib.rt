@@ -1,8 +1,8 @@
 // What every call answers: the number and the place of the first rule broken, or 0 and 0. Here stand
 // the rules' numbers, by name, and the order by which the first refusal decides. The table of the rules
 // is in docs/PINE.md, "The rules"; what each says is defined where it applies: in the specs/ of pine (1
-// to 6, and 19), doubles (4, and 8 and 12 of one number), rows (7 and 12), flp (8 to 11, 13, 17, 20 and
-// 21), layout (14), file_add (15 and 16), sampler (18) and load_report (22).
+// to 6, and 19), doubles (4, and 8, 12 and 23 of one number), rows (7 and 12), flp (8 to 11, 13, 17, 20
+// and 21), layout (14), file_add (15 and 16), sampler (18), load_report (22) and vdaf (23).
 ghost use mathlib.Core.Path.{_≡_};
 ghost use mathlib.Core.Bool.{cond};
 ghost use lib.Dec.{eqb};
@@ -52,6 +52,8 @@ pub const WR_TESTS_IN_RANGE: u64 = 20;
 pub const TRUE_SQ_NORM: u64 = 21;
 // The seed of a load is 0.
 pub const LOAD_SEED: u64 = 22;
+// An element is too large to be decoded.
+pub const SIZE: u64 = 23;
 
 // The rule that was broken and its place, or 0 and 0.
 #[repr(C)]

@@ -15,7 +15,8 @@ use Rattle.doubles.specs.Doubles.{signed}
 use Rattle.doubles.proofs.Nearest.{roundedOver, rounded-once}
 use Rattle.correctness.specs.Correctness.{nearestOver}
 use Rattle.sensitivity.specs.Sensitivity.{square, Exactly, Within}
-use Rattle.correctness.proofs.Centred.{plus, minus, sum-parts}
+use Rattle.doubles.proofs.Parts.{plus, minus}
+use Rattle.correctness.proofs.Centred.{sum-parts}
 
 -- ---- whole numbers
 

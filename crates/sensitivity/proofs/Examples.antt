@@ -21,10 +21,11 @@ use Rattle.rows.proofs.Elements.{elements-below}
 use Rattle.flp.specs.Bits.{bits, groups}
 use Rattle.flp.specs.Tests.{pairs, weighed, weigh, testOf, testsOf}
 use Rattle.flp.specs.Encode.{elements, sqNorm, trueSqNorm, testBits, resultsOf, measurementOf, coordinatesRule, everyRule, enoughRule, rangeRule, countInRange, encodeRules, encodeAnswer, encodeOutcome, encodeOf}
-use Rattle.vdaf.specs.Aggregates.{emptyAnswer, emptyOf, accumulateAnswer, accumulateOf, subtractOf, decodedSums, unshardAnswer, unshardOf}
+use Rattle.vdaf.specs.Aggregates.{emptyAnswer, emptyOf, accumulateAnswer, accumulateOf, subtractOf, sizesRule, decodedSums, unshardAnswer, unshardOf}
 use Rattle.correctness.specs.Table.{double, param, none, one, large}
 use Rattle.correctness.specs.Tally.{nothing, Call, Aggregates, step, run, Begun, Joined}
 use Rattle.correctness.specs.Correctness.{sumℤ, nearestOver, Report, sharesOf, floorsSum}
+use Rattle.correctness.proofs.Correctness.{decodable-64}
 use Rattle.correctness.proofs.Examples.{joins, row-of}
 use Rattle.sensitivity.specs.Sensitivity.{Short, Within, Exactly, Replaced, Removed, squaredDistance, Summed, decodedAt}
 use Rattle.sensitivity.proofs.Moves.{moved-sums, moved-doubles-64}
@@ -224,7 +225,7 @@ withdrawn-joined =
     (refl, (refl, (refl, tt))) (λ r e. rw (e .0, e .1 .0, e .1 .1 .0))
 
 abbrev summed : (calls : List Call) (reports : List (Report Field64 inputs)) → JoinedBy calls reports → Summed Field64 inputs reports
-summed calls reports q = record { start = empties; begun = begun; calls = calls; left = 0; right = 1; joined = q; found = large ∷ large ∷ []; long = refl }
+summed calls reports q = record { start = empties; begun = begun; calls = calls; left = 0; right = 1; joined = q; decodable = decodable-64 inputs reports; found = large ∷ large ∷ []; long = refl }
 
 abbrev east-summed : Summed Field64 inputs with-east
 east-summed = summed east-calls with-east east-joined
@@ -263,7 +264,7 @@ distinct : _≡_ {A = ℕ} 4 5 → ⊥
 distinct h = omega arith
 
 decoded-rows : Decoded
-unfolding run step accumulateOf accumulateAnswer subtractOf paramAnswer paramRules unshardOf unshardAnswer decodedSums decoded centred ofInt neg div round ofBits
+unfolding run step accumulateOf accumulateAnswer subtractOf paramAnswer paramRules unshardOf unshardAnswer sizesRule decodedSums decoded centred ofInt neg div round ofBits
 decoded-rows = record { east-is = refl; west-is = refl; withdrawn-is = refl; not-exactly = λ h. absurd (distinct (ap natAbs h)); no-nearer = λ h. omega arith; no-nearer-to-fewer = λ h. omega arith }
 
 -- ---- why sums within 2 ^ 53, and why true lengths

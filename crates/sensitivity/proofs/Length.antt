@@ -117,9 +117,9 @@ module _ (F : Field) (positive : 0 < F .p) (room : (i : PineParam) → paramAnsw
         λ ok. (
           either-number (eqb (length stream) (streamLen (i .«num_wr_tests») (i .dimension))) 0 7 0 2 refl refl,
           λ z. (
-            either-number (eqb (length measurement) (encodedInputLen i)) 0 7 0 3 refl refl,
+            either-number (eqb (length measurement) (F .wordsIn (encodedInputLen i))) 0 7 0 3 refl refl,
             λ z. (
-              either-number (eqb (length results) (i .«num_wr_tests»)) 0 7 0 4 refl refl,
+              either-number (eqb (length results) (F .wordsIn (i .«num_wr_tests»))) 0 7 0 4 refl refl,
               λ z. (
                 coordinates-other (F .floorLimit) (i .«frac_bits») 0 gradient,
                 λ z. (

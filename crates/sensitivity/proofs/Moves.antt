@@ -144,7 +144,7 @@ module _ (F : Field) (holds : Correctness F) (room : 2 ^ 53 ≤ (F .p - 1) / 2) 
 
   module _ (reports : List (Report F i)) (s : Summed F i reports) where
     decodes : Decodes F i reports (unsharded F i s)
-    decodes = holds i ok (s .start) (s .begun) (s .calls) reports .decoded (s .left) (s .right) (s .joined) (s .found) (s .long)
+    decodes = holds i ok (s .start) (s .begun) (s .calls) reports .decoded (s .left) (s .right) (s .joined) (s .decodable) (s .found) (s .long)
 
     nearest : (j : ℕ) → j < i .dimension → natAbs (floorsSum F i j reports) ≤ 2 ^ 53 → decodedAt F i j s ≡ nearestOver (i .«frac_bits») (floorsSum F i j reports)
     nearest j h w = decodes .at j h (le-trans w room)

@@ -14,7 +14,7 @@ use Rattle.pine.specs.Record.{sqNormBound}
 use Rattle.flp.specs.Encode.{elements, sqNorm, trueSqNorm, encodeAnswer}
 use Rattle.vdaf.specs.Aggregates.{UnshardOutcome, unshardOf}
 use Rattle.correctness.specs.Tally.{Call, Aggregates, run, Begun, Each, Joined}
-use Rattle.correctness.specs.Correctness.{Report, sharesOf, floorsSum}
+use Rattle.correctness.specs.Correctness.{Report, sharesOf, floorsSum, Decodable}
 
 -- ---- true lengths
 
@@ -83,7 +83,7 @@ module _ (F : Field) (i : PineParam) where
   -- ---- their decoded rows
 
   -- a batch summed, as in the main theorem: aggregates each begun by an accepted call, any list of calls on these, two of them whose tallies joined are the shares of the reports, and a row for
-  -- `unshard`, whatever it holds
+  -- `unshard`, whatever it holds. The reports' sums can be decoded: over Field64 they always can
   pub record Summed (reports : List (Report F i)) : Type 0 where
     pub start : Aggregates
     pub begun : (k : ℕ) → Begun F (i .dimension) (start k)
@@ -91,6 +91,7 @@ module _ (F : Field) (i : PineParam) where
     pub left : ℕ
     pub right : ℕ
     pub joined : Joined (run F start calls left .tally) (run F start calls right .tally) (sharesOf F i reports)
+    pub decodable : Decodable F i reports
     pub found : List Float
     pub long : length found ≡ i .dimension
 

@@ -32,11 +32,6 @@ product a b h k prime =
     let l : a * 2 ≤ a * b = mul-le-mul-left a k in
     ⊎-elim (λ e. omega arith) (λ e. omega arith) (prime .divisors a (dvd-mul-right a b))
 
--- the modulus of Field128
-prime-128 : Prime (2 ^ 66 * 4611686018427387897 + 1)
-unfolding squared
-prime-128 = prime-by (2 ^ 66 * 4611686018427387897 + 1) 145091266659756586618791329697897684742 65 (lit< tt) refl (lit< tt) refl
-
 -- ---- counting
 
 -- 0 + 1 + 4 + 9
@@ -86,7 +81,7 @@ wrong-norm w = omega (arith, w .norm)
 -- ---- triples counted, over a field of 5 numbers
 
 abbrev Field5 : Field
-Field5 = record { p = 5; floorLimit = 2; normLimit = 1 }
+Field5 = record { p = 5; floorLimit = 2; sizeLimit = 2; normLimit = 1; wordsIn = λ n. n; elements = λ row. row; words = λ xs. xs }
 
 abbrev zeros : (T K : ℕ) (full : List ℕ) → ℕ
 zeros T K full = triples 5 (looksTrue Field5 (inputs T K) full)
@@ -109,7 +104,7 @@ counted = record { right = refl; norm = refl; norm-and-successes = refl; tests =
 
 -- the theorem holds there too; the bound is 7 · 5², L being 8
 soundness-5 : Soundness Field5
-soundness-5 = soundness Field5 prime-5
+soundness-5 = soundness Field5 (record { read-back = λ xs h. refl; as-many = λ xs. refl; counted = λ row n h. h }) prime-5
 
 worst-5 : worst (inputs 1 0) ≡ 7
 unfolding bitCheckedLen sqNormBits sqNormBound wrTestBits wrTestBound digits halvings

@@ -1,4 +1,4 @@
--- How rarely a false report looks true, over any field whose modulus is prime; and over Field64. Assumes nothing.
+-- How rarely a false report looks true, over any field whose modulus is prime and whose rows can be read back; and over Field64. Assumes nothing.
 use mathlib.Core.Path.{_≡_, refl, sym, ap, _∙_}
 use mathlib.Core.List.{List, [], _∷_, map}
 use Prim.Native.Nat.{ℕ, zero, suc, _+_, _-_, _*_, _%_, _≤_, _<_}
@@ -14,7 +14,9 @@ use Rattle.field64.proofs.Primes.{prime-64}
 use Rattle.field64.proofs.Factors.{other-zero}
 use Rattle.pine.specs.declared.PineParam.{PineParam}
 use Rattle.pine.specs.Param.{Field, Field64}
+use Rattle.pine.specs.Words.{WordLaws}
 use Rattle.pine.specs.Record.{sqNormBound, wrTestBound, wrTestBits, bitCheckedLen, gadgetCalls}
+use Rattle.pine.proofs.Words.{words-64}
 use Rattle.rows.specs.Rows.{Below}
 use Rattle.rows.proofs.Elements.{below-take, below-drop}
 use Rattle.flp.specs.Circuits.{checkedPart, resultsPart, testParts, normV, normU, termA, termN, testTerms, termW, termG, validValue, validRules, validOf, zeroWith, FullVector, WellFormed}
@@ -71,7 +73,7 @@ module _ (p b w : ℕ) where
 
 -- ---- a vector
 
-module _ (F : Field) (prime : Prime (F .p)) (i : PineParam) (full : List ℕ) (vector : FullVector F i full) where
+module _ (F : Field) (laws : WordLaws F) (prime : Prime (F .p)) (i : PineParam) (full : List ℕ) (vector : FullVector F i full) where
   abbrev p : ℕ
   p = F .p
 
@@ -101,8 +103,8 @@ module _ (F : Field) (prime : Prime (F .p)) (i : PineParam) (full : List ℕ) (v
   checked-below = below-take p (bitCheckedLen i) _ (below-drop p (i .dimension) full (vector .below))
 
   module _ (r1 r2 r3 : ℕ) (h1 : r1 < F .p) (h2 : r2 < F .p) (h3 : r3 < F .p) where
-    answered : inOrder (validRules F i 1 full (r1 ∷ r2 ∷ r3 ∷ [])) ≡ accepted
-    answered = main-accepted F i full vector (r1 ∷ r2 ∷ r3 ∷ []) refl (h1, (h2, (h3, tt)))
+    answered : inOrder (validRules F i 1 (F .words full) (F .words (r1 ∷ r2 ∷ r3 ∷ []))) ≡ accepted
+    answered = main-accepted F laws i full vector (r1 ∷ r2 ∷ r3 ∷ []) refl (h1, (h2, (h3, tt)))
 
     answer-is : main F i full r1 r2 r3 .answer ≡ accepted
     unfolding validOf
@@ -110,10 +112,10 @@ module _ (F : Field) (prime : Prime (F .p)) (i : PineParam) (full : List ℕ) (v
 
     value-is : main F i full r1 r2 r3 .value ≡ evaluate p r3 (evaluate p r1 xs ∷ N ∷ evaluate p r2 ws ∷ G ∷ [])
     unfolding validOf validValue termA termW
-    value-is = rw (answered, inverse-one p)
+    value-is = rw (answered, laws .read-back full (vector .below), laws .read-back (r1 ∷ r2 ∷ r3 ∷ []) (h1, (h2, (h3, tt))), inverse-one p)
 
     well-formed : WellFormed (F .p) i full → main F i full r1 r2 r3 ≡ zeroWith (gadgetCalls i)
-    well-formed w = main-zero F i full vector (prime .above) w (r1 ∷ r2 ∷ r3 ∷ []) refl (h1, (h2, (h3, tt)))
+    well-formed w = main-zero F laws i full vector (prime .above) w (r1 ∷ r2 ∷ r3 ∷ []) refl (h1, (h2, (h3, tt)))
 
   same : triples p (looksTrue F i full) ≤ triples p (isZero p xs ws N G)
   same = triples-le p (looksTrue F i full) (isZero p xs ws N G) (λ r1 r2 r3 h1 h2 h3 t. rw (value-is r1 r2 r3 h1 h2 h3) at t)
@@ -146,14 +148,14 @@ module _ (F : Field) (prime : Prime (F .p)) (i : PineParam) (full : List ℕ) (v
             successes = G-below g;
           }))
 
-pub soundness : (F : Field) → Prime (F .p) → Soundness F
-soundness F prime = record {
+pub soundness : (F : Field) → WordLaws F → Prime (F .p) → Soundness F
+soundness F laws prime = record {
   prime = prime;
   all = triples-all (F .p);
-  accepts = λ i full v r1 r2 r3 h1 h2 h3. answer-is F prime i full v r1 r2 r3 h1 h2 h3;
-  always = λ i full v w r1 r2 r3 h1 h2 h3. well-formed F prime i full v r1 r2 r3 h1 h2 h3 w;
-  rarely = λ i full v bad. false-report F prime i full v bad;
+  accepts = λ i full v r1 r2 r3 h1 h2 h3. answer-is F laws prime i full v r1 r2 r3 h1 h2 h3;
+  always = λ i full v w r1 r2 r3 h1 h2 h3. well-formed F laws prime i full v r1 r2 r3 h1 h2 h3 w;
+  rarely = λ i full v bad. false-report F laws prime i full v bad;
 }
 
 pub soundness-64 : Soundness Field64
-soundness-64 = soundness Field64 prime-64
+soundness-64 = soundness Field64 words-64 prime-64

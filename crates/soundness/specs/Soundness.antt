@@ -32,7 +32,7 @@ triples n test = sumBelow n (λ r1. sumBelow n (λ r2. count n (λ r3. test r1 r
 module _ (F : Field) (i : PineParam) (full : List ℕ) where
   -- what it answers, for one share and the joint randomness r1, r2, r3
   abbrev pub main : (r1 r2 r3 : ℕ) → Circuit
-  main r1 r2 r3 = validOf F i 1 full (r1 ∷ r2 ∷ r3 ∷ [])
+  main r1 r2 r3 = validOf F i 1 (F .words full) (F .words (r1 ∷ r2 ∷ r3 ∷ []))
 
   -- its value is zero, whatever is answered beside it
   abbrev pub looksTrue : (r1 r2 r3 : ℕ) → Bool

@@ -1,4 +1,4 @@
 -- What the proofs of the functions cite: `Verdicts` of the rules, `Fit` of the derived record, `Cut` of the circuits on the parts of a vector.
-mod Verdicts
-mod Fit
-mod Cut
+pub mod Verdicts
+pub mod Fit
+pub mod Cut

@@ -24,11 +24,12 @@ module _ (F : Field) (i : PineParam) (a : Answer) where
     unfolding emptyOf
     empty-refused n = rw (← e, ne-eqb (a .number) 0 n)
 
-    pub empty-done : a .number ≡ 0 → (r : List ℕ) → r ≡ replicate (length row) 0 → outcome a r ≡ emptyOf F i row
+    -- where the words of zeros are zeros
+    pub empty-done : ((n : ℕ) → F .words (replicate n 0) ≡ replicate (F .wordsIn n) 0) → a .number ≡ 0 → (r : List ℕ) → r ≡ replicate (length row) 0 → outcome a r ≡ emptyOf F i row
     unfolding emptyOf
-    empty-done z r g =
-        let l : length row ≡ i .dimension = emptied F i row (ap number (sym e) ∙ z) .1 in
-        rw (g, ← e, l, eq-eqb (a .number) 0 z)
+    empty-done zeros z r g =
+        let l : length row ≡ F .wordsIn (i .dimension) = emptied F i row (ap number (sym e) ∙ z) .1 in
+        rw (g, ← e, l, zeros (i .dimension), eq-eqb (a .number) 0 z)
 
   module _ (agg share : List ℕ) (e : a ≡ accumulateAnswer F i agg share) where
     pub accumulate-refused : (a .number ≡ 0 → ⊥) → outcome a agg ≡ accumulateOf F i agg share
@@ -38,7 +39,7 @@ module _ (F : Field) (i : PineParam) (a : Answer) where
     pub accumulate-met : a .number ≡ 0 → TwoRows F i agg share
     accumulate-met z = added F i agg share (ap number (sym e) ∙ z)
 
-    pub accumulate-done : a .number ≡ 0 → (r : List ℕ) → r ≡ addRows (F .p) agg share → outcome a r ≡ accumulateOf F i agg share
+    pub accumulate-done : a .number ≡ 0 → (r : List ℕ) → r ≡ F .words (addRows (F .p) (F .elements agg) (F .elements share)) → outcome a r ≡ accumulateOf F i agg share
     unfolding accumulateOf
     accumulate-done z r g = rw (g, ← e, eq-eqb (a .number) 0 z)
 
@@ -46,7 +47,7 @@ module _ (F : Field) (i : PineParam) (a : Answer) where
     unfolding subtractOf
     subtract-refused n = rw (← e, ne-eqb (a .number) 0 n)
 
-    pub subtract-done : a .number ≡ 0 → (r : List ℕ) → r ≡ subRows (F .p) agg share → outcome a r ≡ subtractOf F i agg share
+    pub subtract-done : a .number ≡ 0 → (r : List ℕ) → r ≡ F .words (subRows (F .p) (F .elements agg) (F .elements share)) → outcome a r ≡ subtractOf F i agg share
     unfolding subtractOf
     subtract-done z r g = rw (g, ← e, eq-eqb (a .number) 0 z)
 
@@ -59,6 +60,6 @@ module _ (F : Field) (i : PineParam) (a : Answer) where
     unshard-met z = unsharded F i left right row (ap number (sym e) ∙ z)
 
     -- decoded at the record's own scale
-    pub unshard-done : a .number ≡ 0 → (R : Pine) → R ≡ pineOf i → (r : List Float) → r ≡ decodedSums (F .p) (R .«frac_bits») left right → unshardOutcome a r ≡ unshardOf F i left right row
+    pub unshard-done : a .number ≡ 0 → (R : Pine) → R ≡ pineOf i → (r : List Float) → r ≡ decodedSums (F .p) (R .«frac_bits») (F .elements left) (F .elements right) → unshardOutcome a r ≡ unshardOf F i left right row
     unfolding unshardOf pineOf
     unshard-done z R f r g = rw (g, f, ← e, eq-eqb (a .number) 0 z)

@@ -6,11 +6,11 @@ use lib.ListN.{replicate}
 use lib.Ieee.{Float, binary64, ofBits, ofInt, neg, div}
 use Rattle.rules.specs.Rules.{answer, accepted}
 use Rattle.field64.specs.Field.{p64}
-use Rattle.doubles.specs.Doubles.{plusZero, centred, decoded}
+use Rattle.doubles.specs.Doubles.{floorLimit64, plusZero, centred, decoded}
 use Rattle.pine.specs.declared.PineParam.{PineParam}
-use Rattle.pine.specs.Param.{Field64, paramRules, paramAnswer, standard, withAlpha}
+use Rattle.pine.specs.Param.{Field, Field64, paramRules, paramAnswer, standard, withAlpha}
 use Rattle.rows.specs.Outcome.{Outcome, outcome}
-use Rattle.vdaf.specs.Aggregates.{emptyAnswer, emptyOf, accumulateAnswer, accumulateOf, subtractOf, UnshardOutcome, unshardOutcome, decodedSums, unshardAnswer, unshardOf}
+use Rattle.vdaf.specs.Aggregates.{emptyAnswer, emptyOf, accumulateAnswer, accumulateOf, subtractOf, UnshardOutcome, unshardOutcome, sizesRule, decodedSums, unshardAnswer, unshardOf}
 
 -- the inputs with this dimension and these fractional bits; the others are the least
 abbrev inputs : (d f : ℕ) → PineParam
@@ -123,5 +123,31 @@ record Unsharding : Type 0 where
   taken : doubles 2 0 (1 ∷ 2 ∷ []) (3 ∷ (p64 - 2) ∷ []) (plusZero ∷ ofBits binary64 0x3ff0_0000_0000_0000 ∷ []) ≡ record { answer = record { number = 0; place = 0 }; row = ofBits binary64 0x4010_0000_0000_0000 ∷ plusZero ∷ [] }
 
 unsharding : Unsharding
-unfolding unshardOf unshardAnswer decodedSums decoded centred paramAnswer paramRules ofBits ofInt neg div
+unfolding unshardOf unshardAnswer sizesRule decodedSums decoded centred paramAnswer paramRules ofBits ofInt neg div
 unsharding = record { quarters = refl; zero-sum = refl; ties = refl; row-short = refl; in-right = refl; refused = refl; taken = refl }
+
+-- ---- over a field with Field64's modulus and rows, of which no decoded number's size may be above 5: rule 23 names the first sum beyond it
+abbrev small-sizes : Field
+small-sizes = record {
+  p = p64;
+  floorLimit = floorLimit64;
+  sizeLimit = 5;
+  normLimit = 3037000499;
+  wordsIn = λ n. n;
+  elements = λ row. row;
+  words = λ xs. xs;
+}
+
+abbrev small : (left right : List ℕ) (row : List Float) → UnshardOutcome
+small left right row = unshardOf small-sizes (inputs 2 0) left right row
+
+record Sizes : Type 0 where
+  within : small (2 ∷ (p64 - 9) ∷ []) (3 ∷ 4 ∷ []) (plusZero ∷ plusZero ∷ []) ≡ unshardOutcome accepted (ofBits binary64 0x4014_0000_0000_0000 ∷ ofBits binary64 0xc014_0000_0000_0000 ∷ [])
+  above : small (5 ∷ 3 ∷ []) (0 ∷ 3 ∷ []) (plusZero ∷ plusZero ∷ []) ≡ unshardOutcome (answer 23 1) (plusZero ∷ plusZero ∷ [])
+  below : small ((p64 - 3) ∷ 3 ∷ []) ((p64 - 3) ∷ 3 ∷ []) (plusZero ∷ plusZero ∷ []) ≡ unshardOutcome (answer 23 0) (plusZero ∷ plusZero ∷ [])
+  -- an element before a size
+  element-first : small (6 ∷ p64 ∷ []) (1 ∷ 1 ∷ []) (plusZero ∷ plusZero ∷ []) ≡ unshardOutcome (answer 12 1) (plusZero ∷ plusZero ∷ [])
+
+sizes : Sizes
+unfolding unshardOf unshardAnswer sizesRule decodedSums decoded centred paramAnswer paramRules ofBits ofInt neg div
+sizes = record { within = refl; above = refl; below = refl; element-first = refl }

@@ -1,6 +1,6 @@
 -- `Verdicts`, `Effects`: what the proofs of the functions cite. `Accepted`: what an accepted call has met, and what makes it accept. `Decoded`: the decoded row. `Examples`: computed.
-mod Verdicts
-mod Effects
+pub mod Verdicts
+pub mod Effects
 pub mod Accepted
 pub mod Decoded
 mod Examples

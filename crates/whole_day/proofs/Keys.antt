@@ -11,6 +11,7 @@ use lib.Dec.{ltb, eqb}
 use borrow.Author.Tests.{eqb-true, eq-eqb, ne-eqb}
 use Rattle.field64.specs.Field.{p64, addMod}
 use Rattle.field64.proofs.Modular.{modular}
+use Rattle.pine.specs.Param.{Field64}
 use Rattle.rows.specs.Rows.{addRows}
 use Rattle.rows.proofs.Elements.{below-take, below-drop}
 use Rattle.rows.proofs.Added.{length-addRows, getD-addRows}
@@ -20,9 +21,9 @@ use Rattle.entries.specs.File.{Entry, keyIn, valveIn, lessBytes, keysOf, FileOk
 use Rattle.entries.proofs.Adding.{found-key, found-placed, found-other, fresh-ok, ok-found, inserted, keys-placed}
 use Rattle.entries.proofs.Keys.{key-injective, key-order}
 use Rattle.file_add.specs.Add.{addAnswer}
-use Rattle.correctness.specs.Tally.{eqRow, count, Aggregate, FieldRow, Each}
+use Rattle.correctness.specs.Tally.{eqRow, count, Aggregate, FieldRow, Each, WordRow}
 use Rattle.correctness.proofs.Counts.{eqRow-true, eqRow-refl, sumOver}
-use Rattle.correctness.proofs.Tally.{at, Backed}
+use Rattle.correctness.proofs.Tally.{at, Backed, Good}
 use Rattle.whole_day.specs.Day.{Key, Adding, Keys, sharesOf}
 use Rattle.whole_day.proofs.Days.{share-row, next, next-ok, accepts-is, after-one, through, through-ok}
 use Rattle.whole_day.proofs.Sizes.{held-inserted}
@@ -77,14 +78,22 @@ shares-body p e [] = refl
 shares-body p e (s ∷ ss) = shares-body p (raised p s e) ss
 
 -- each element is the sum of that element
-summed-at : (p d j : ℕ) → j < d → (b : List ℕ) (ss : List (List ℕ)) → length b ≡ d → Each (FieldRow p d) ss → at j (summed p b ss) % p ≡ (at j b + sumOver (at j) ss) % p
+summed-at : (p d j : ℕ) → j < d → (b : List ℕ) (ss : List (List ℕ)) → length b ≡ d → Each (FieldRow p d) ss → at Field64 j (summed p b ss) % p ≡ (at Field64 j b + sumOver (at Field64 j) ss) % p
 unfolding summed
 summed-at p d j h b [] l f = ap (λ (n : ℕ). n % p) (omega arith)
 summed-at p d j h b (s ∷ ss) l f =
     let same : length b ≡ length s = l ∙ sym (f .0 .long) in
-    let x : at j (addRows p b s) ≡ addMod p (at j b) (at j s) = getD-addRows p b s j same (omega arith) in
-    let q : at j b + at j s + sumOver (at j) ss ≡ at j b + (at j s + sumOver (at j) ss) = omega arith in
+    let x : at Field64 j (addRows p b s) ≡ addMod p (at Field64 j b) (at Field64 j s) = getD-addRows p b s j same (omega arith) in
+    let q : at Field64 j b + at Field64 j s + sumOver (at Field64 j) ss ≡ at Field64 j b + (at Field64 j s + sumOver (at Field64 j) ss) = omega arith in
     summed-at p d j h (addRows p b s) ss (length-addRows p b s same ∙ l) (f .1) ∙ rw x (simp modular (ap (λ (n : ℕ). n % p) q))
+
+-- d field numbers, as a row of Field64
+word-row : (d : ℕ) (r : List ℕ) → FieldRow p64 d r → WordRow Field64 d r
+word-row d r f = record { long = f .long; below = f .below }
+
+word-rows : (d : ℕ) (ss : List (List ℕ)) → Each (FieldRow p64 d) ss → Each (WordRow Field64 d) ss
+word-rows d [] f = tt
+word-rows d (s ∷ ss) f = (word-row d s (f .0), word-rows d ss (f .1))
 
 -- ---- one call, and one key
 
@@ -210,18 +219,21 @@ module _ (d : ℕ) (small : d ≤ 65536) (g : List ℕ) (kg : Key g) where
     abbrev pub holding : Aggregate
     holding = record { row = entryFor (fresh d g) final .body; tally = λ r. pos (count r S) }
 
-    pub holding-backed : Backed p64 d holding
+    pub holding-backed : Backed Field64 d holding
     holding-backed = record {
-      row = body-row;
+      row = word-row d (entryFor (fresh d g) final .body) body-row;
       adds = S;
       takes = [];
-      adds-rows = key-shares;
+      adds-rows = word-rows d S key-shares;
       takes-rows = tt;
       numbers = λ r. omega arith;
       sums = λ j h.
           let e : entryFor (fresh d g) final .body ≡ summed p64 (replicate d 0) S = ap (λ (x : Entry). x .body) (day-entry [] none calls k) ∙ shares-body p64 (fresh d g) S in
-          let z : at j (replicate d 0) ≡ 0 = getD-replicate {A = ℕ} d j 0 0 h in
-          let q : at j (entryFor (fresh d g) final .body) + 0 ≡ at j (summed p64 (replicate d 0) S) = omega (arith, ap (at j) e) in
-          let r : at j (replicate d 0) + sumOver (at j) S ≡ sumOver (at j) S = omega arith in
+          let z : at Field64 j (replicate d 0) ≡ 0 = getD-replicate {A = ℕ} d j 0 0 h in
+          let q : at Field64 j (entryFor (fresh d g) final .body) + 0 ≡ at Field64 j (summed p64 (replicate d 0) S) = omega (arith, ap (at Field64 j) e) in
+          let r : at Field64 j (replicate d 0) + sumOver (at Field64 j) S ≡ sumOver (at Field64 j) S = omega arith in
           ap (λ (x : ℕ). x % p64) q ∙ summed-at p64 d j h (replicate d 0) S (length-replicate {A = ℕ} d 0) key-shares ∙ ap (λ (x : ℕ). x % p64) r;
     }
+
+    pub holding-good : Good Field64 d holding
+    holding-good = record { backing = holding-backed; written = refl }

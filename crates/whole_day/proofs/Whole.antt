@@ -11,6 +11,7 @@ use lib.IntN.{pos}
 use borrow.Author.Tests.{eqb-true}
 use Rattle.field64.specs.Field.{p64}
 use Rattle.pine.specs.Param.{Field64, paramAnswer}
+use Rattle.pine.proofs.Words.{words-64}
 use Rattle.flp.proofs.Gradient.{room-64}
 use Rattle.entries.specs.File.{Entry, keyIn, keysOf, FileOk, fileOf, fileLen, entriesIn, held, fresh, entryFor}
 use Rattle.entries.proofs.Files.{file-met, entries-ok, file-of-entries, file-accepted, entries-of-file, length-file}
@@ -19,7 +20,7 @@ use Rattle.day_file.proofs.Inverse.{write-read, read-write}
 use Rattle.file_add.specs.Add.{addAnswer, newFile, addOf}
 use Rattle.rows.specs.Rows.{Below}
 use Rattle.correctness.proofs.Tally.{of-rows}
-use Rattle.correctness.proofs.Correctness.{decodes}
+use Rattle.correctness.proofs.Correctness.{decodes, decodable-64}
 use Rattle.whole_day.specs.Day.{Key, Adding, Keys, accepts, afterOne, entryOf}
 use Rattle.whole_day.specs.Statements.{Inverses, dayFile, dayShares, KeyDay, WholeDay, KeyDoubles, ExactSize, Files, Added, OneAdding}
 use Rattle.whole_day.proofs.Adding.{new-accepted, this-entry, other-entries, new-count}
@@ -108,7 +109,7 @@ module _ (d : ℕ) (small : d ≤ 65536) (calls : List Adding) (k : Keys calls) 
     reports = ap (λ (l : List Entry). entryFor (fresh d g) l .reports) entries ∙ keys.key-reports d small g h calls k;
     shares = keys.key-shares d small g h calls k;
     long = ap length (sym (body-is g h)) ∙ keys.holding-backed d small g h calls k .row .long;
-    sums = λ j l. ap (λ (b : List ℕ). getD b j 0) (sym (body-is g h)) ∙ of-rows p64 d (omega arith) (keys.holding d small g h calls k) (keys.holding-backed d small g h calls k) (dayShares d calls g) (λ r. refl) j l;
+    sums = λ j l. ap (λ (b : List ℕ). getD b j 0) (sym (body-is g h)) ∙ of-rows Field64 words-64 d (omega arith) (keys.holding d small g h calls k) (keys.holding-backed d small g h calls k) (dayShares d calls g) (λ r. refl) j l;
   }
 
 pub whole-days : WholeDay
@@ -123,7 +124,7 @@ key-doubles i accepts left right k l g h reports q found long =
     let d = i .dimension in
     let small : d ≤ 65536 = dimension-limits i (paramAnswer Field64 i) refl (ap number accepts) .1 in
     rw (← body-is d small left k g h, ← body-is d small right l g h)
-    (decodes Field64 (omega arith) room-64 i accepts (keys.holding d small g h left k) (keys.holding d small g h right l) (keys.holding-backed d small g h left k) (keys.holding-backed d small g h right l) reports (λ r. ap pos (q r)) found long)
+    (decodes Field64 words-64 (omega arith) room-64 i accepts (keys.holding d small g h left k) (keys.holding d small g h right l) (keys.holding-good d small g h left k) (keys.holding-good d small g h right l) reports (λ r. ap pos (q r)) (decodable-64 i reports) found long)
 
 pub exact-size : ExactSize
 exact-size = record { refused = sizes.first-refusal; made = sizes.file-of-size; length-is = different.length-is }

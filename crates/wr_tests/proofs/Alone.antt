@@ -11,6 +11,7 @@ use Rattle.rules.specs.Rules.{first, inOrder}
 use Rattle.rules.proofs.Chain.{passed, refuse-last}
 use Rattle.pine.specs.declared.PineParam.{PineParam}
 use Rattle.pine.specs.Param.{Field, paramAnswer}
+use Rattle.pine.specs.Words.{WordLaws}
 use Rattle.pine.specs.Record.{bytesPerTest, streamLen}
 use Rattle.rows.specs.Rows.{firstBad, rowRule, elementsRule, Below}
 use Rattle.rows.specs.Outcome.{outcome}
@@ -24,10 +25,10 @@ module _ (F : Field) (i : PineParam) (xs s d : List ℕ) where
   -- the answer to the rules after the first six
   pub tests-answer : (a a₂ : Answer) → paramAnswer F i .number ≡ 0
       → a₂ ≡ rowRule 2 (length s) (streamLen (i .«num_wr_tests») (i .dimension))
-      → a ≡ first (rowRule 1 (length xs) (i .dimension)) (first a₂ (first (rowRule 3 (length d) (i .«num_wr_tests»)) (elementsRule (F .p) xs)))
+      → a ≡ first (rowRule 1 (length xs) (F .wordsIn (i .dimension))) (first a₂ (first (rowRule 3 (length d) (F .wordsIn (i .«num_wr_tests»))) (elementsRule (F .p) (F .elements xs))))
       → a ≡ inOrder (runTestsRules F i xs s d)
   unfolding runTestsRules
-  tests-answer a a₂ h e₂ e = e ∙ simp (e₂, eq-eqb _ _ h, refuse-last (ltb (firstBad (F .p) xs) (length xs)) 11 (0 + firstBad (F .p) xs))
+  tests-answer a a₂ h e₂ e = e ∙ simp (e₂, eq-eqb _ _ h, refuse-last (ltb (firstBad (F .p) (F .elements xs)) (length (F .elements xs))) 11 (0 + firstBad (F .p) (F .elements xs)))
 
   -- one of the first six is broken
   pub stopped : (a : Answer) → a ≡ paramAnswer F i → (a .number ≡ 0 → ⊥) → a ≡ inOrder (runTestsRules F i xs s d)
@@ -43,34 +44,48 @@ module _ (F : Field) (i : PineParam) (xs s d : List ℕ) where
       pub record Met : Type 0 where
         pub dimension : (0 < i .dimension) × (i .dimension ≤ 65536)
         pub tests : (0 < i .«num_wr_tests») × (i .«num_wr_tests» ≤ 256)
-        pub row-1 : length xs ≡ i .dimension
+        pub row-1 : length xs ≡ F .wordsIn (i .dimension)
         pub row-2 : length s ≡ streamLen (i .«num_wr_tests») (i .dimension)
-        pub row-3 : length d ≡ i .«num_wr_tests»
-        pub below : Below (F .p) xs
+        pub row-3 : length d ≡ F .wordsIn (i .«num_wr_tests»)
+        pub below : Below (F .p) (F .elements xs)
 
       pub met : Met
       unfolding runTestsRules
       met =
           let h = passed (runTestsRules F i xs s d) (ap (λ (b : Answer). b .number) (sym e) ∙ z) in
-          record { dimension = limits F i (h .0) .dimension; tests = limits F i (h .0) .tests; row-1 = row-right 1 _ _ (h .1 .0); row-2 = row-right 2 _ _ (h .1 .1 .0); row-3 = row-right 3 _ _ (h .1 .1 .1 .0); below = elements-below (F .p) 0 xs (h .1 .1 .1 .1 .0) }
+          record { dimension = limits F i (h .0) .dimension; tests = limits F i (h .0) .tests; row-1 = row-right 1 _ _ (h .1 .0); row-2 = row-right 2 _ _ (h .1 .1 .0); row-3 = row-right 3 _ _ (h .1 .1 .1 .0); below = elements-below (F .p) 0 (F .elements xs) (h .1 .1 .1 .1 .0) }
 
-      -- the tests have room, and take the whole stream
-      pub record Room : Type 0 where
-        pub whole : length d * ((length xs + 3) / 4) ≡ streamLen (i .«num_wr_tests») (i .dimension)
-        pub some : 0 < streamLen (i .«num_wr_tests») (i .dimension)
-        pub tests : (0 < length d) × (length d ≤ 256)
-        pub per : ((0 < (length xs + 3) / 4) × ((length xs + 3) / 4 ≤ 16384)) × (length xs ≤ 4 * ((length xs + 3) / 4))
+      -- how many elements the rows have
+      module _ (laws : WordLaws F) where
+        abbrev n : ℕ
+        n = length (F .elements xs)
 
-      pub room : Room
-      room = record {
-        whole = λ j. met .row-3 j * bytesPerTest (met .row-1 j);
-        some = some-bytes (i .«num_wr_tests») (bytesPerTest (i .dimension)) (met .tests .0) (omega (arith, met .dimension));
-        tests = (omega (arith, met .row-3, met .tests), omega (arith, met .row-3, met .tests));
-        per = ((omega (arith, met .row-1, met .dimension), omega (arith, met .row-1, met .dimension)), omega arith);
-      }
+        abbrev t : ℕ
+        t = length (F .elements d)
 
-      pub done : (r : List ℕ) → r ≡ testsOf (F .p) ((length xs + 3) / 4) (length d) s xs → outcome a r ≡ runTestsOf F i xs s d
-      unfolding runTestsOf
-      done r q =
-          let f : r ≡ testsOf (F .p) (bytesPerTest (i .dimension)) (i .«num_wr_tests») s xs = q ∙ (λ j. testsOf (F .p) (bytesPerTest (met .row-1 j)) (met .row-3 j) s xs) in
-          simp (f, ← e, eq-eqb (a .number) 0 z)
+        gradient-long : n ≡ i .dimension
+        gradient-long = laws .counted xs (i .dimension) (met .row-1)
+
+        results-long : t ≡ i .«num_wr_tests»
+        results-long = laws .counted d (i .«num_wr_tests») (met .row-3)
+
+        -- the tests have room, and take the whole stream
+        pub record Room : Type 0 where
+          pub whole : t * ((n + 3) / 4) ≡ streamLen (i .«num_wr_tests») (i .dimension)
+          pub some : 0 < streamLen (i .«num_wr_tests») (i .dimension)
+          pub tests : (0 < t) × (t ≤ 256)
+          pub per : ((0 < (n + 3) / 4) × ((n + 3) / 4 ≤ 16384)) × (n ≤ 4 * ((n + 3) / 4))
+
+        pub room : Room
+        room = record {
+          whole = λ j. results-long j * bytesPerTest (gradient-long j);
+          some = some-bytes (i .«num_wr_tests») (bytesPerTest (i .dimension)) (met .tests .0) (omega (arith, met .dimension));
+          tests = (omega (arith, results-long, met .tests), omega (arith, results-long, met .tests));
+          per = ((omega (arith, gradient-long, met .dimension), omega (arith, gradient-long, met .dimension)), omega arith);
+        }
+
+        pub done : (r : List ℕ) → r ≡ F .words (testsOf (F .p) ((n + 3) / 4) t s (F .elements xs)) → outcome a r ≡ runTestsOf F i xs s d
+        unfolding runTestsOf
+        done r q =
+            let f : r ≡ F .words (testsOf (F .p) (bytesPerTest (i .dimension)) (i .«num_wr_tests») s (F .elements xs)) = q ∙ (λ j. F .words (testsOf (F .p) (bytesPerTest (gradient-long j)) (results-long j) s (F .elements xs))) in
+            simp (f, ← e, eq-eqb (a .number) 0 z)

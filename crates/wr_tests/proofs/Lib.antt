@@ -1,2 +1,2 @@
--- What the proofs of the functions cite: `Alone` of the cases of the call.
-mod Alone
+-- Laws of the tests alone, over any field: `Alone` of the cases of the call.
+pub mod Alone

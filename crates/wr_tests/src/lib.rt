@@ -1,6 +1,9 @@
 // The wraparound tests alone (`run_wr_tests` of pine/flp.rs of the Rust).
 use pine::PineParam;
 use rules::Answer;
+
+pub mod lengths;
+
 ghost use mathlib.Core.Path.{_≡_};
 ghost use Prim.Native.Nat.{_*_, _≤_, _<_};
 ghost use lib.ListN.{length};
@@ -15,14 +18,6 @@ ghost use Rattle.wr_joint_rand.specs.WrJointRand.{wrStream};
 
 // So many bytes of all tests are few.
 const FEW_BYTES: usize = 12;
-
-// The bytes of the stream. The record has them too, but deriving it takes as long as a small test.
-fn stream_len(param: PineParam) -> u64
-    requires { ⌜ (param .«num_wr_tests» ≤ 256) × (param .dimension ≤ 65536) ⌝ }
-    ensures { λ r. ⌜ r ≡ streamLen (param .«num_wr_tests») (param .dimension) ⌝ }
-{
-    param.num_wr_tests * ((param.dimension + 3) / 4)
-}
 
 // Rules 7 and 12, where rule 7 of row 2 has this answer.
 fn check_rows(param: PineParam, gradient: &[u64], row_2: Answer, results: &[u64]) -> Answer
@@ -42,7 +37,7 @@ fn check_lent(param: PineParam, gradient: &[u64], stream: &[u8], results: &[u64]
     if inputs.number != 0 {
         return inputs;
     }
-    let row_2 = rows::check_len(2, stream.len(), stream_len(param));
+    let row_2 = rows::check_len(2, stream.len(), lengths::stream_len(param));
     check_rows(param, gradient, row_2, results)
 }
 
@@ -54,7 +49,7 @@ fn check_seeded(param: PineParam, gradient: &[u64], seed: &[u8], results: &[u64]
     if inputs.number != 0 {
         return inputs;
     }
-    let row_2 = wr_joint_rand::check_row(true, seed, stream_len(param));
+    let row_2 = wr_joint_rand::check_row(true, seed, lengths::stream_len(param));
     check_rows(param, gradient, row_2, results)
 }
 

@@ -5,7 +5,7 @@ use Rattle.rules.specs.declared.Answer.{Answer}
 use Rattle.rules.specs.Rules.{accepted, inOrder}
 use Rattle.pine.specs.Param.{Field64, paramAnswer}
 use Rattle.pine.proofs.Limits.{param-accepted}
-use Rattle.pine.proofs.Sizes.{scale-is}
+use Rattle.pine.proofs.Sizes.{derivable-64, scale-is}
 use lib.ListN.{take}
 use Rattle.cut.specs.Cut.{cutRules}
 use Rattle.cut.proofs.Cutting.{inputs-refused, early-is, early-refused, early-met}
@@ -25,7 +25,7 @@ returns : tie.Need-returns
 returns c = inputs-refused Field64 (c .before .before .before .before .before .before .before .before .before .args .param) (c .before .before .before .before .before .before .before .before .before .args .gradient .now) (c .before .before .before .before .before .before .before .before .before .args .nonce .now) (c .before .before .before .before .before .before .before .before .before .args .seeds .now) (c .before .before .before .before .before .before .before .before .before .args .leader .now) (c .before .before .before .before .before .before .before .before .before .args .helper .now) (c .before .before .before .before .before .before .before .before .before .args .given .now) _ (c .before .before .check-param .ensures) (c .if1 .taken)
 
 new-requires : tie.Need-new-requires
-new-requires c κs = param-accepted Field64 (c .before .before .before .before .before .before .before .before .before .args .param) (met (c))
+new-requires c κs = derivable-64 (param-accepted Field64 (c .before .before .before .before .before .before .before .before .before .args .param) (met (c)))
 
 check-rows-requires : tie.Need-check-rows-requires
 check-rows-requires c κs = scale-is (c .before .before .before .before .before .before .before .before .before .before .before .before .before .args .param) _ (c .before .before .before .new .ensures)

@@ -17,11 +17,12 @@ use Rattle.pine.proofs.Sizes.{sizes-64}
 use Rattle.rows.specs.Rows.{Below}
 use Rattle.flp.specs.Encode.{elements, encodeOutcome, encodeOf}
 use Rattle.flp.proofs.Gradient.{elements-below}
+use Rattle.flp.proofs.Encoded.{measurement-below}
 use Rattle.turboshake.proofs.Shake.{bytes-all}
 use Rattle.sampler.specs.Sampler.{sampled, drawsRule}
 use Rattle.shares.specs.Shares.{helperStream}
 use Rattle.cut.specs.Cut.{wrStreamOf}
-use Rattle.cut.proofs.Cutting.{measurement-below, Ready, ready, draws-were, met-8, stream-of, stream-whole, tests-refused, measured, accepted-with}
+use Rattle.cut.proofs.Cutting.{Ready, ready, draws-were, met-8, stream-of, stream-whole, tests-refused, measured, accepted-with}
 use Rattle.cut.proofs.cut_from_tests.Statement.{statement}
 use Rattle.cut.proofs.cut_from_tests.Tie as tie
 
@@ -75,12 +76,12 @@ same-length-2 c = search needs
 
 returns : tie.Need-returns
 unfolding results
-returns c = tests-refused Field64 (c .before .before .before .before .before .before .before .before .before .before .before .before .before .before .before .before .args .param) (c .before .before .before .before .before .before .before .before .before .before .before .before .before .before .before .before .args .gradient .now) (c .before .before .before .before .before .before .before .before .before .before .before .before .before .before .before .before .args .nonce .now) (c .before .before .before .before .before .before .before .before .before .before .before .before .before .before .before .before .args .seeds .now) (c .before .before .before .before .before .before .before .before .before .before .before .before .before .before .before .before .args .leader .now) (c .before .before .before .before .before .before .before .before .before .before .before .before .before .before .before .before .args .helper .now) (c .before .before .before .before .before .before .before .before .before .before .before .before .before .before .before .before .args .given .now) (c .before .before .before .before .before .before .before .before .before .before .before .before .before .before .before .before .pre .0) (results (c .before .before .before .before .before .before .before .before .before .before .before .before .before .before .before .before)) (results-long (c .before .before .before .before .before .before .before .before .before .before .before .before .before .before .before .before)) (stream-is (c .before .before .before .before .before .before .before .before .before .before .before .before .before .before .before .before)) _ _ _ (call (c .before .before .before .before .before .before)) (c .before .before .before .before .before .before .before .before .before .before .before .before .before .before .before .before .args .param .«num_wr_tests») refl (c .if1 .taken)
+returns c = tests-refused (c .before .before .before .before .before .before .before .before .before .before .before .before .before .before .before .before .args .param) (c .before .before .before .before .before .before .before .before .before .before .before .before .before .before .before .before .args .gradient .now) (c .before .before .before .before .before .before .before .before .before .before .before .before .before .before .before .before .args .nonce .now) (c .before .before .before .before .before .before .before .before .before .before .before .before .before .before .before .before .args .seeds .now) (c .before .before .before .before .before .before .before .before .before .before .before .before .before .before .before .before .args .leader .now) (c .before .before .before .before .before .before .before .before .before .before .before .before .before .before .before .before .args .helper .now) (c .before .before .before .before .before .before .before .before .before .before .before .before .before .before .before .before .args .given .now) (c .before .before .before .before .before .before .before .before .before .before .before .before .before .before .before .before .pre .0) (results (c .before .before .before .before .before .before .before .before .before .before .before .before .before .before .before .before)) (results-long (c .before .before .before .before .before .before .before .before .before .before .before .before .before .before .before .before)) (stream-is (c .before .before .before .before .before .before .before .before .before .before .before .before .before .before .before .before)) _ _ _ (call (c .before .before .before .before .before .before)) (c .before .before .before .before .before .before .before .before .before .before .before .before .before .before .before .before .args .param .«num_wr_tests») refl (c .if1 .taken)
 
 cut-measurement-requires : tie.Need-cut-measurement-requires
 cut-measurement-requires c κs =
     let r = ready-of (c .before .before .before .before .before .before .before .before .before .before .before .before .before .before .before .before .before .before .before) in
-    let m = measured Field64 (c .before .before .before .before .before .before .before .before .before .before .before .before .before .before .before .before .before .before .before .args .param) (c .before .before .before .before .before .before .before .before .before .before .before .before .before .before .before .before .before .before .before .args .gradient .now) (c .before .before .before .before .before .before .before .before .before .before .before .before .before .before .before .before .before .before .before .args .nonce .now) (c .before .before .before .before .before .before .before .before .before .before .before .before .before .before .before .before .before .before .before .args .seeds .now) (c .before .before .before .before .before .before .before .before .before .before .before .before .before .before .before .before .before .before .before .args .leader .now) (c .before .before .before .before .before .before .before .before .before .before .before .before .before .before .before .before .before .before .before .args .helper .now) (c .before .before .before .before .before .before .before .before .before .before .before .before .before .before .before .before .before .before .before .args .given .now) (c .before .before .before .before .before .before .before .before .before .before .before .before .before .before .before .before .before .before .before .pre .0) (results (c .before .before .before .before .before .before .before .before .before .before .before .before .before .before .before .before .before .before .before)) (results-long (c .before .before .before .before .before .before .before .before .before .before .before .before .before .before .before .before .before .before .before)) (stream-is (c .before .before .before .before .before .before .before .before .before .before .before .before .before .before .before .before .before .before .before)) _ _ _ (call (c .before .before .before .before .before .before .before .before .before)) (c .before .before .before .if1 .left) in
+    let m = measured (c .before .before .before .before .before .before .before .before .before .before .before .before .before .before .before .before .before .before .before .args .param) (c .before .before .before .before .before .before .before .before .before .before .before .before .before .before .before .before .before .before .before .args .gradient .now) (c .before .before .before .before .before .before .before .before .before .before .before .before .before .before .before .before .before .before .before .args .nonce .now) (c .before .before .before .before .before .before .before .before .before .before .before .before .before .before .before .before .before .before .before .args .seeds .now) (c .before .before .before .before .before .before .before .before .before .before .before .before .before .before .before .before .before .before .before .args .leader .now) (c .before .before .before .before .before .before .before .before .before .before .before .before .before .before .before .before .before .before .before .args .helper .now) (c .before .before .before .before .before .before .before .before .before .before .before .before .before .before .before .before .before .before .before .args .given .now) (c .before .before .before .before .before .before .before .before .before .before .before .before .before .before .before .before .before .before .before .pre .0) (results (c .before .before .before .before .before .before .before .before .before .before .before .before .before .before .before .before .before .before .before)) (results-long (c .before .before .before .before .before .before .before .before .before .before .before .before .before .before .before .before .before .before .before)) (stream-is (c .before .before .before .before .before .before .before .before .before .before .before .before .before .before .before .before .before .before .before)) _ _ _ (call (c .before .before .before .before .before .before .before .before .before)) (c .before .before .before .if1 .left) in
     let xs = elements p64 (c .before .before .before .before .before .before .before .before .before .before .before .before .before .before .before .before .before .before .before .args .param .«frac_bits») (c .before .before .before .before .before .before .before .before .before .before .before .before .before .before .before .before .before .before .before .args .gradient .now) in
     let stream = wrStreamOf Field64 (c .before .before .before .before .before .before .before .before .before .before .before .before .before .before .before .before .before .before .before .args .param) (c .before .before .before .before .before .before .before .before .before .before .before .before .before .before .before .before .before .before .before .args .gradient .now) (c .before .before .before .before .before .before .before .before .before .before .before .before .before .before .before .before .before .before .before .args .nonce .now) (c .before .before .before .before .before .before .before .before .before .before .before .before .before .before .before .before .before .before .before .args .seeds .now) in
     let below = subst (Below p64) (sym m) (measurement-below p64 (omega arith) (c .before .before .before .before .before .before .before .before .before .before .before .before .before .before .before .before .before .before .before .args .param) stream xs (elements-below p64 (c .before .before .before .before .before .before .before .before .before .before .before .before .before .before .before .before .before .before .before .args .param .«frac_bits») (lit< tt) (c .before .before .before .before .before .before .before .before .before .before .before .before .before .before .before .before .before .before .before .args .gradient .now))) in
@@ -100,7 +101,7 @@ same-length-5 c = search needs
 returns-2 : tie.Need-returns-2
 returns-2 c =
     let drawn = c .before .before .before .before .before .before .cut-measurement .ensures .0 ∙ ap (λ (k : ℕ). sampled p64 k (helperStream k (c .before .before .before .before .before .before .before .before .before .before .before .before .before .before .before .before .before .before .before .before .before .before .before .before .before .before .args .seeds .now))) (helper-long (c .before .before .before .before .before .before .before .before .before .before .before .before .before .before .before .before)) in
-    accepted-with Field64 (c .before .before .before .before .before .before .before .before .before .before .before .before .before .before .before .before .before .before .before .before .before .before .before .before .before .before .args .param) (c .before .before .before .before .before .before .before .before .before .before .before .before .before .before .before .before .before .before .before .before .before .before .before .before .before .before .args .gradient .now) (c .before .before .before .before .before .before .before .before .before .before .before .before .before .before .before .before .before .before .before .before .before .before .before .before .before .before .args .nonce .now) (c .before .before .before .before .before .before .before .before .before .before .before .before .before .before .before .before .before .before .before .before .before .before .before .before .before .before .args .seeds .now) (c .before .before .before .before .before .before .before .before .before .before .before .before .before .before .before .before .before .before .before .before .before .before .before .before .before .before .args .leader .now) (c .before .before .before .before .before .before .before .before .before .before .before .before .before .before .before .before .before .before .before .before .before .before .before .before .before .before .args .helper .now) (c .before .before .before .before .before .before .before .before .before .before .before .before .before .before .before .before .before .before .before .before .before .before .before .before .before .before .args .given .now) (c .before .before .before .before .before .before .before .before .before .before .before .before .before .before .before .before .before .before .before .before .before .before .before .before .before .before .pre .0) (results (c .before .before .before .before .before .before .before .before .before .before .before .before .before .before .before .before .before .before .before .before .before .before .before .before .before .before)) (results-long (c .before .before .before .before .before .before .before .before .before .before .before .before .before .before .before .before .before .before .before .before .before .before .before .before .before .before)) (stream-is (c .before .before .before .before .before .before .before .before .before .before .before .before .before .before .before .before .before .before .before .before .before .before .before .before .before .before)) _ _ _ (call (c .before .before .before .before .before .before .before .before .before .before .before .before .before .before .before .before)) (c .before .before .before .before .before .before .before .before .before .before .if1 .left) (c .before .before .before .before .before .before .before .before .before .before .before .before .before .before .before .before .before .before .before .before .before .before .before .before .before .before .args .t5) _ _ _ (c .before .before .before .before .before .before .before .before .before .before .before .before .before .before .before .before .before .before .before .before .before .before .before .before .before .before .pre .1) drawn (c .before .before .before .before .before .before .cut-measurement .ensures .1 .0) (c .before .before .before .before .before .before .cut-measurement .ensures .1 .1)
+    accepted-with (c .before .before .before .before .before .before .before .before .before .before .before .before .before .before .before .before .before .before .before .before .before .before .before .before .before .before .args .param) (c .before .before .before .before .before .before .before .before .before .before .before .before .before .before .before .before .before .before .before .before .before .before .before .before .before .before .args .gradient .now) (c .before .before .before .before .before .before .before .before .before .before .before .before .before .before .before .before .before .before .before .before .before .before .before .before .before .before .args .nonce .now) (c .before .before .before .before .before .before .before .before .before .before .before .before .before .before .before .before .before .before .before .before .before .before .before .before .before .before .args .seeds .now) (c .before .before .before .before .before .before .before .before .before .before .before .before .before .before .before .before .before .before .before .before .before .before .before .before .before .before .args .leader .now) (c .before .before .before .before .before .before .before .before .before .before .before .before .before .before .before .before .before .before .before .before .before .before .before .before .before .before .args .helper .now) (c .before .before .before .before .before .before .before .before .before .before .before .before .before .before .before .before .before .before .before .before .before .before .before .before .before .before .args .given .now) (c .before .before .before .before .before .before .before .before .before .before .before .before .before .before .before .before .before .before .before .before .before .before .before .before .before .before .pre .0) (results (c .before .before .before .before .before .before .before .before .before .before .before .before .before .before .before .before .before .before .before .before .before .before .before .before .before .before)) (results-long (c .before .before .before .before .before .before .before .before .before .before .before .before .before .before .before .before .before .before .before .before .before .before .before .before .before .before)) (stream-is (c .before .before .before .before .before .before .before .before .before .before .before .before .before .before .before .before .before .before .before .before .before .before .before .before .before .before)) _ _ _ (call (c .before .before .before .before .before .before .before .before .before .before .before .before .before .before .before .before)) (c .before .before .before .before .before .before .before .before .before .before .if1 .left) (c .before .before .before .before .before .before .before .before .before .before .before .before .before .before .before .before .before .before .before .before .before .before .before .before .before .before .args .t5) _ _ _ (c .before .before .before .before .before .before .before .before .before .before .before .before .before .before .before .before .before .before .before .before .before .before .before .before .before .before .pre .1) drawn (c .before .before .before .before .before .before .cut-measurement .ensures .1 .0) (c .before .before .before .before .before .before .cut-measurement .ensures .1 .1)
 
 pub cut-from-tests-spec : {M : Type 1} → statement M
 cut-from-tests-spec =

@@ -1,9 +1,14 @@
 -- `doubles::centred_of` meets its contract: 2 ^ 84 + 2 ^ 63 + 2 ^ 52 is given in MIR by its bit pattern. Assumes nothing.
 use borrow.Author.Needs.{needs}
+use Prim.Native.Nat.{ℕ, _/_, _^_, _<_}
+use native.Mathlib.Omega.{arith}
 use lib.Ieee.{ofBits}
 use Rattle.doubles.proofs.Centred.{high-number, low-number, nearest-centred}
 use Rattle.doubles.proofs.centred_of.Statement.{statement}
 use Rattle.doubles.proofs.centred_of.Tie as tie
+
+upper-half : (x : ℕ) → x < 2 ^ 64 → x / 2 ^ 32 < 2 ^ 33
+upper-half x h = omega arith
 
 wrapping-sub-u64-requires : tie.Need-wrapping-sub-u64-requires
 wrapping-sub-u64-requires c κs = search needs
@@ -21,7 +26,7 @@ add-high : tie.Need-add-high
 add-high c = search needs
 
 float-from-bits-high : tie.Need-float-from-bits-high
-float-from-bits-high c = high-number (c .wrapping-add-u642 .result) (search needs)
+float-from-bits-high c = high-number (c .wrapping-add-u642 .result / 2 ^ 32) (upper-half (c .wrapping-add-u642 .result) (search needs))
 
 add-low : tie.Need-add-low
 add-low c = search needs

@@ -1,30 +1,16 @@
 -- `doubles::check_coordinate` meets its contract: rule 8, then rule 17, by the product with the scale. Assumes nothing.
 use borrow.Author.Needs.{needs}
 use borrow.Author.Tests.{not-true, not-false}
-use mathlib.Core.Path.{_≡_, refl, sym, ap, _∙_, subst}
-use mathlib.Core.Bool.{Bool, true, false, not}
-use Prim.Native.Nat.{ℕ}
-use lib.Dec.{T}
-use lib.Ieee.{Float, binary64, fits, mul}
-use Rattle.doubles.specs.Doubles.{beyond, floorLimit64, unusable, floorOf, power}
-use Rattle.doubles.specs.Steps.{within}
-use Rattle.doubles.proofs.Accept.{usable-within, answer-8, answer-17, answer-none}
+use mathlib.Core.Path.{sym, _∙_, subst}
+use lib.Dec.{T, lit<}
+use lib.Ieee.{binary64, fits}
+use Rattle.doubles.specs.Doubles.{floorLimit64}
+use Rattle.doubles.proofs.Accept.{usable-is, limit-is, answer-8, answer-17, answer-none}
 use Rattle.doubles.proofs.check_coordinate.Statement.{statement}
 use Rattle.doubles.proofs.check_coordinate.Tie as tie
 
 held : (c : tie.Start) → T (fits binary64 (c .args .x))
 held c = subst T (sym (c .good .0 .1)) tt
-
--- what the two tests say of x
-usable-is : (x : Float) (t : Bool) → t ≡ not (unusable x) → not t ≡ false → unusable x ≡ false
-usable-is x t e h = not-true _ (sym e ∙ not-false t h)
-
-limit-is : (x scale : Float) (f : ℕ) → T (fits binary64 x) → scale ≡ power f → unusable x ≡ false → (t : Bool) → t ≡ within (mul binary64 x scale) → not t ≡ beyond floorLimit64 (floorOf x f)
-limit-is x scale f t s u b e = ap not (e ∙ ap (λ (z : Float). within (mul binary64 x z)) s ∙ usable-within x f t u) ∙ not-not _
-  where
-    not-not : (b : Bool) → not (not b) ≡ b
-    not-not true = refl
-    not-not false = refl
 
 usable-requires : tie.Need-usable-requires
 usable-requires c κs = search needs
@@ -42,7 +28,7 @@ returns-2 c =
     let u = c .before .before in
     let s = u .before .before in
     let h = usable-is (s .args .x) _ (u .before .usable .ensures) (u .if1 .left) in
-    answer-17 floorLimit64 (s .args .x) (s .args .frac-bits) h (sym (limit-is (s .args .x) (s .args .scale) (s .args .frac-bits) (held s) (s .pre) h _ (c .before .within-limit .ensures)) ∙ c .if2 .taken)
+    answer-17 floorLimit64 (s .args .x) (s .args .frac-bits) h (sym (limit-is floorLimit64 (lit< tt) (s .args .x) (s .args .scale) (s .args .frac-bits) (held s) (s .pre) h _ (c .before .within-limit .ensures)) ∙ c .if2 .taken)
 
 accepted-requires : tie.Need-accepted-requires
 accepted-requires c κs = search needs
@@ -53,7 +39,7 @@ returns-3 c =
     let u = w .before in
     let s = u .before .before in
     let h = usable-is (s .args .x) _ (u .before .usable .ensures) (u .if1 .left) in
-    c .accepted .ensures ∙ answer-none floorLimit64 (s .args .x) (s .args .frac-bits) h (sym (limit-is (s .args .x) (s .args .scale) (s .args .frac-bits) (held s) (s .pre) h _ (w .within-limit .ensures)) ∙ c .before .if2 .left)
+    c .accepted .ensures ∙ answer-none floorLimit64 (s .args .x) (s .args .frac-bits) h (sym (limit-is floorLimit64 (lit< tt) (s .args .x) (s .args .scale) (s .args .frac-bits) (held s) (s .pre) h _ (w .within-limit .ensures)) ∙ c .before .if2 .left)
 
 pub check-coordinate-spec : {M : Type 1} → statement M
 check-coordinate-spec =

@@ -2,7 +2,10 @@
 use borrow.Author.Needs.{needs}
 use borrow.Author.Tests.{lt-ltb, le-ltb, le-leb, lt-leb}
 use lib.Ieee.{ofBits}
-use Rattle.doubles.specs.Doubles.{decodedOf}
+use lib.Dec.{lit≤}
+use Rattle.field64.specs.Field.{p64}
+use Rattle.doubles.specs.Doubles.{sizeLimit64, decodedOf}
+use Rattle.doubles.proofs.Sense.{size-met}
 use Rattle.doubles.proofs.field_to_f64.Statement.{statement}
 use Rattle.doubles.proofs.field_to_f64.Tie as tie
 
@@ -27,7 +30,7 @@ returns-3 : tie.Need-returns-3
 unfolding decodedOf
 returns-3 c =
     let b = c .before .before .before in
-    simp (c .before .before .accepted .ensures, c .decode .ensures, le-ltb _ _ (b .before .if1 .left), lt-leb _ _ (b .if2 .left))
+    simp (c .before .before .accepted .ensures, c .decode .ensures, le-ltb _ _ (b .before .if1 .left), lt-leb _ _ (b .if2 .left), size-met p64 sizeLimit64 _ (lit≤ tt) (b .if2 .left))
 
 pub field-to-f64-spec : {M : Type 1} → statement M
 field-to-f64-spec =

@@ -1,14 +1,10 @@
 -- `doubles::refused` meets its contract. Assumes nothing.
 use borrow.Author.Needs.{needs}
-use borrow.Author.Tests.{not-true}
-use mathlib.Core.Path.{_≡_, sym, ap, _∙_, subst}
-use mathlib.Core.Bool.{true, false}
-use lib.Dec.{T}
-use lib.Ieee.{Float, binary64, fits, mul}
-use Rattle.rules.specs.declared.Answer.{Answer}
-use Rattle.doubles.specs.Doubles.{floorLimit64, power, unusable}
-use Rattle.doubles.specs.Steps.{within}
-use Rattle.doubles.proofs.Accept.{usable-unless-small, usable-within, answer-none}
+use mathlib.Core.Path.{sym, _∙_, subst}
+use lib.Dec.{T, lit<}
+use lib.Ieee.{binary64, fits}
+use Rattle.doubles.specs.Doubles.{floorLimit64}
+use Rattle.doubles.proofs.Accept.{not-refused}
 use Rattle.doubles.proofs.refused.Statement.{statement}
 use Rattle.doubles.proofs.refused.Tie as tie
 
@@ -26,15 +22,8 @@ returns : tie.Need-returns
 returns c =
     let k = c .before .before in
     let s = k .before in
-    let x = s .args .x in
-    let f = s .args .frac-bits in
     let q = k .small-flag .ensures in
-    let w : within (mul binary64 x (power f)) ≡ true = ap (λ (z : Float). within (mul binary64 x z)) (sym (s .pre)) ∙ sym (c .before .within-limit .ensures) ∙ c .if1 .taken in (
-      q .0,
-      λ z.
-          let u : unusable x ≡ false = usable-unless-small x f (q .1 z) w in
-          ap (λ (a : Answer). a .number) (sym (answer-none floorLimit64 x f u (not-true _ (sym (usable-within x f (held s) u) ∙ w)))),
-    )
+    (q .0, λ z. not-refused floorLimit64 (s .args .x) (s .args .frac-bits) (lit< tt) (s .args .scale) (held s) (s .pre) (q .1 z) (sym (c .before .within-limit .ensures) ∙ c .if1 .taken))
 
 returns-2 : tie.Need-returns-2
 returns-2 c = search needs

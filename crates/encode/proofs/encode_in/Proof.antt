@@ -15,7 +15,8 @@ use Rattle.pine.specs.Record.{streamLen}
 use Rattle.wr_joint_rand.proofs.Seeds.{stream-some}
 use Rattle.wr_joint_rand.specs.WrJointRand.{streamFrom}
 use Rattle.pine.proofs.Limits.{param-accepted}
-use Rattle.pine.proofs.Sizes.{scale-is}
+use Rattle.pine.proofs.Sizes.{derivable-64, derived-64, scale-is}
+use Rattle.pine.proofs.Words.{words-64}
 use Rattle.rows.specs.Rows.{rowRule}
 use Rattle.flp.specs.Encode.{trueSqNorm, encodeRules}
 use Rattle.flp.proofs.Tests.{results-below}
@@ -48,7 +49,7 @@ met c =
 whole : (c : tie.Else2) → length (c .before .before .before .before .before .before .before .before .before .before .before .before .before .before .before .before .args .found .now) ≡ length (c .before .before .before .before .before .before .before .before .before .before .before .before .before .before .before .before .args .results .now)
 whole c =
     let s = c .before .before .before .before .before .before .before .before .before .before .before .before .before .before .before .before in
-    omega (arith, s .pre, few Field64 (s .args .param) (s .args .gradient .now) (bytes s) (s .args .measurement .now) (s .args .results .now) (met c))
+    omega (arith, s .pre, few Field64 (s .args .param) (s .args .gradient .now) (bytes s) (s .args .measurement .now) (s .args .results .now) (met c) words-64)
 
 check-param-requires : tie.Need-check-param-requires
 check-param-requires c κs = search needs
@@ -59,10 +60,10 @@ returns c =
     inputs-refused Field64 (s .args .param) (s .args .gradient .now) (bytes s) (s .args .measurement .now) (s .args .results .now) _ (c .before .before .check-param .ensures) (c .if1 .taken)
 
 new-requires : tie.Need-new-requires
-new-requires c κs = passed c
+new-requires c κs = derivable-64 (passed c)
 
 stream-len-requires : tie.Need-stream-len-requires
-stream-len-requires c κs = record { param = _; accepts = passed (c .before); is = c .new .ensures }
+stream-len-requires c κs = derived-64 (record { param = _; accepts = passed (c .before); is = c .new .ensures })
 
 check-row-requires : tie.Need-check-row-requires
 check-row-requires c κs = rw (c .stream-len .ensures ∙ stream-is _ _ (c .before .new .ensures)) (stream-some Field64 _ (passed (c .before .before)))
@@ -91,7 +92,7 @@ norm-and-tests-requires c κs =
     let s = c .before .before .before .before .before .before .before .before .before .before .before .before .before .before .before .before .before in
     let n = c .before .before .before .before .before .before .before .before .new in
     let h = ready Field64 (s .args .param) (s .args .gradient .now) (bytes s) (s .args .measurement .now) (s .args .results .now) (met (c .before)) in
-    let w = room Field64 (s .args .param) (s .args .gradient .now) (bytes s) (s .args .measurement .now) (s .args .results .now) (met (c .before)) (length (s .args .found .now)) (whole (c .before)) in
+    let w = room Field64 (s .args .param) (s .args .gradient .now) (bytes s) (s .args .measurement .now) (s .args .results .now) (met (c .before)) words-64 (length (s .args .found .now)) (whole (c .before)) in
     ((subst (λ (f : ℕ). Usable floorLimit64 f (s .args .gradient .now)) (sym (fraction-is (s .args .param) _ (n .ensures))) (h .usable), scale-is (s .args .param) _ (n .ensures)), (rw (w .whole) (le-of-eq (sym (h .stream-long))), (w .tests, w .per)))
 
 finish-requires : tie.Need-finish-requires
@@ -100,7 +101,7 @@ finish-requires c κs =
     let n = c .before .before .before .before .before .before .before .before .before .before .before .before .before .before .new in
     let h = ready Field64 (s .args .param) (s .args .gradient .now) (bytes s) (s .args .measurement .now) (s .args .results .now) (met (c .before .before .before .before .before .before .before)) in
     let t = c .before .before .before .before .before .norm-and-tests in
-    ((n .ensures, h .inputs), ((h .usable, t .ensures .0 ∙ ap (λ (f : ℕ). trueSqNorm f (s .args .gradient .now)) (fraction-is (s .args .param) _ (n .ensures))), (results-below p64 (omega arith) _ _ _ _ _ (t .ensures .1), rooms Field64 (s .args .param) (s .args .gradient .now) (bytes s) (s .args .measurement .now) (s .args .results .now) (met (c .before .before .before .before .before .before .before)) (t .last .1 .1 .1 .1 .1 .1 .0) (t .kept .1 .1 .1 .1 .1 .1 .0 ∙ whole (c .before .before .before .before .before .before .before)))))
+    ((n .ensures, h .inputs), ((h .usable, t .ensures .0 ∙ ap (λ (f : ℕ). trueSqNorm f (s .args .gradient .now)) (fraction-is (s .args .param) _ (n .ensures))), (results-below p64 (omega arith) _ _ _ _ _ (t .ensures .1), rooms Field64 (s .args .param) (s .args .gradient .now) (bytes s) (s .args .measurement .now) (s .args .results .now) (met (c .before .before .before .before .before .before .before)) words-64 (t .last .1 .1 .1 .1 .1 .1 .0) (t .kept .1 .1 .1 .1 .1 .1 .0 ∙ whole (c .before .before .before .before .before .before .before)))))
 
 same-length-3 : tie.Need-same-length-3
 same-length-3 c = search needs
@@ -116,8 +117,8 @@ returns-3 c =
     let s = c .before .before .before .before .before .before .before .before .before .before .before .before .before .before .before .before .before .before .before .before .before .before .before .before .before .before .before .before in
     let n = c .before .before .before .before .before .before .before .before .before .before .before .before .before .before .before .before .before .before .before .new in
     let t = c .before .before .before .before .before .before .before .before .before .before .norm-and-tests in
-    let w = room Field64 (s .args .param) (s .args .gradient .now) (bytes s) (s .args .measurement .now) (s .args .results .now) (met (c .before .before .before .before .before .before .before .before .before .before .before .before)) (length (s .args .found .now)) (whole (c .before .before .before .before .before .before .before .before .before .before .before .before)) in
-    c .before .before .before .before .finish .ensures ∙ late-is Field64 (s .args .param) (s .args .gradient .now) (bytes s) (s .args .measurement .now) (s .args .results .now) (met (c .before .before .before .before .before .before .before .before .before .before .before .before)) _ (length (s .args .found .now)) _ (whole (c .before .before .before .before .before .before .before .before .before .before .before .before)) (fraction-is (s .args .param) _ (n .ensures)) (rw (w .whole) at (t .ensures .1))
+    let w = room Field64 (s .args .param) (s .args .gradient .now) (bytes s) (s .args .measurement .now) (s .args .results .now) (met (c .before .before .before .before .before .before .before .before .before .before .before .before)) words-64 (length (s .args .found .now)) (whole (c .before .before .before .before .before .before .before .before .before .before .before .before)) in
+    c .before .before .before .before .finish .ensures ∙ late-is Field64 (s .args .param) (s .args .gradient .now) (bytes s) (s .args .measurement .now) (s .args .results .now) (met (c .before .before .before .before .before .before .before .before .before .before .before .before)) words-64 _ (length (s .args .found .now)) _ (whole (c .before .before .before .before .before .before .before .before .before .before .before .before)) (fraction-is (s .args .param) _ (n .ensures)) (rw (w .whole) at (t .ensures .1))
 
 pub encode-in-spec : {M : Type 1} → statement M
 encode-in-spec =

@@ -7,6 +7,7 @@ use lib.Ieee.{binary64, ofBits}
 use Rattle.pine.specs.declared.record.Pine.{Pine}
 use Rattle.pine.specs.Param.{Field64}
 use Rattle.pine.specs.Record.{pineOf, streamLen}
+use Rattle.pine.proofs.Sizes.{derivable-64, derived-64}
 use Rattle.flp.specs.Encode.{encodeOf}
 use Rattle.load_draws.specs.Draws.{gradientOf, streamOf}
 use Rattle.load_report.proofs.Reported.{room, part-long}
@@ -33,12 +34,12 @@ stream-fits c =
     rw (stream-long c) (room (s .args .param) (s .pre) .stream)
 
 new-requires : tie.Need-new-requires
-new-requires c κs = room (c .before .before .args .param) (c .before .before .pre) .accepts
+new-requires c κs = derivable-64 (room (c .before .before .args .param) (c .before .before .pre) .accepts)
 
 stream-len-requires : tie.Need-stream-len-requires
 stream-len-requires c κs =
     let s = c .before .before .before in
-    record { param = _; accepts = room (s .args .param) (s .pre) .accepts; is = c .new .ensures }
+    derived-64 (record { param = _; accepts = room (s .args .param) (s .pre) .accepts; is = c .new .ensures })
 
 array-borrow-prefix-gradient : tie.Need-array-borrow-prefix-gradient
 array-borrow-prefix-gradient c = gradient-fits c

@@ -8,6 +8,7 @@ use Rattle.rules.specs.declared.Answer.{Answer}
 use Rattle.rules.specs.Rules.{inOrder}
 use Rattle.pine.specs.declared.record.Pine.{Pine}
 use Rattle.pine.specs.Record.{pineOf, encodedInputLen}
+use Rattle.pine.proofs.Sizes.{derivable-64}
 use Rattle.load_inputs.specs.Inputs.{earlyRules}
 use Rattle.load_report.proofs.Reported.{Room, room, inputs-passed, words-early, part-long}
 use Rattle.load_report.proofs.write_words.Statement.{statement}
@@ -47,7 +48,7 @@ returns c =
     (w .write-answer .ensures .0 ∙ words-early _ _ _ (t .before .before .check-load .ensures) (t .if1 .taken), omega (arith, w .write-answer .ensures .1))
 
 new-requires : tie.Need-new-requires
-new-requires c κs = room-of c .accepts
+new-requires c κs = derivable-64 (room-of c .accepts)
 
 array-borrow-prefix-results : tie.Need-array-borrow-prefix-results
 array-borrow-prefix-results c = tests-fit (c .before)

@@ -5,6 +5,7 @@ use Rattle.rules.specs.declared.Answer.{Answer}
 use Rattle.rules.specs.Rules.{inOrder}
 use Rattle.pine.specs.Param.{Field64, paramAnswer}
 use Rattle.pine.proofs.Limits.{param-accepted}
+use Rattle.pine.proofs.Sizes.{derivable-64}
 use Rattle.rows.specs.Rows.{rowRule}
 use Rattle.flp.specs.Circuits.{partRules}
 use Rattle.parts.proofs.Vectors.{input-is, part-stopped, part-answer}
@@ -30,7 +31,7 @@ returns c =
     refused-is (a .param) (a .full .now) _ _ (part-stopped (a .param) (a .full .now) _ (b .check-param .ensures) (c .before .if1 .taken)) (c .before .if1 .taken) (c .refused .ensures)
 
 new-requires : tie.Need-new-requires
-new-requires c κs = param-accepted Field64 _ (met c)
+new-requires c κs = derivable-64 (param-accepted Field64 _ (met c))
 
 input-len-requires : tie.Need-input-len-requires
 input-len-requires c κs = search needs

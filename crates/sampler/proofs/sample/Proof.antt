@@ -9,7 +9,7 @@ use Rattle.rules.specs.Rules.{accepted, first}
 use Rattle.pine.specs.Param.{Field64, paramAnswer}
 use Rattle.pine.specs.Record.{encodedInputLen, pineOf}
 use Rattle.pine.proofs.Limits.{param-accepted}
-use Rattle.pine.proofs.Sizes.{sizes-64}
+use Rattle.pine.proofs.Sizes.{derivable-64, sizes-64}
 use Rattle.rows.specs.Rows.{rowRule}
 use Rattle.sampler.specs.Sampler.{drawLimit}
 use Rattle.sampler.proofs.Sampling.{inputs-refused, rows-refused, draws-refused, enough, accepted-with}
@@ -40,7 +40,7 @@ returns : tie.Need-returns
 returns c = inputs-refused Field64 (c .before .before .before .before .before .args .param) (c .before .before .before .before .before .args .stream .now) (c .before .before .before .before .before .args .share .now) _ (c .before .before .check-param .ensures) (c .if1 .taken)
 
 new-requires : tie.Need-new-requires
-new-requires c κs = passed c
+new-requires c κs = derivable-64 (passed c)
 
 add-most : tie.Need-add-most
 add-most c = record { fits = omega (arith, long (c .before), sizes-64 _ (passed (c .before .before)) .encoded) }

@@ -10,7 +10,7 @@ use Rattle.flp.specs.Encode.{elements}
 use Rattle.turboshake.specs.declared.Sponge.{Sponge}
 use Rattle.turboshake.specs.Stream.{after}
 use Rattle.groups.proofs.Swapped.{part-long}
-use Rattle.gradient_groups.proofs.Norm.{row-long}
+use Rattle.groups.proofs.Swapped.{row-long}
 use Rattle.seeded_gradient.proofs.Blocks.{Small}
 use Rattle.wr_joint_rand.proofs.Blocks.{Done, first-done, next-drawn, all, after-more}
 use Rattle.seeded_gradient.proofs.take_blocks.Statement.{statement}

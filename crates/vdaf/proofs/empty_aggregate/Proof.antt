@@ -1,4 +1,5 @@
 -- `vdaf::empty_aggregate` meets its contract. Assumes nothing.
+use mathlib.Core.Path.{refl}
 use Rattle.pine.specs.Param.{Field64}
 use Rattle.vdaf.proofs.Effects.{empty-refused, empty-done}
 use borrow.Author.Needs.{needs}
@@ -24,7 +25,7 @@ returns-2 : tie.Need-returns-2
 returns-2 c =
     let z = c .before .before in
     let b = z .before .before in
-    empty-done Field64 _ _ _ (b .before .before .check-empty .ensures) (b .if1 .left) _ (z .zero-row .ensures)
+    empty-done Field64 _ _ _ (b .before .before .check-empty .ensures) (λ n. refl) (b .if1 .left) _ (z .zero-row .ensures)
 
 pub empty-aggregate-spec : {M : Type 1} → statement M
 empty-aggregate-spec =

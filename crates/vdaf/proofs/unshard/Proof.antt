@@ -1,7 +1,7 @@
 -- `vdaf::unshard` meets its contract. Assumes nothing.
 use mathlib.Core.Path.{sym, _∙_}
 use Rattle.pine.specs.Param.{Field64}
-use Rattle.pine.proofs.Sizes.{scale-is}
+use Rattle.pine.proofs.Sizes.{derivable-64, scale-is}
 use Rattle.vdaf.proofs.Effects.{unshard-refused, unshard-met, unshard-done}
 use borrow.Author.Needs.{needs}
 use Rattle.vdaf.proofs.unshard.Statement.{statement}
@@ -17,7 +17,7 @@ returns : tie.Need-returns
 returns c = unshard-refused Field64 _ _ _ _ _ (c .before .before .check-unshard .ensures) (c .if1 .taken)
 
 new-requires : tie.Need-new-requires
-new-requires c κs = unshard-met Field64 _ _ _ _ _ (c .before .before .check-unshard .ensures) (c .if1 .left) .0 .param
+new-requires c κs = derivable-64 (unshard-met Field64 _ _ _ _ _ (c .before .before .check-unshard .ensures) (c .if1 .left) .0 .param)
 
 decode-sums-requires : tie.Need-decode-sums-requires
 decode-sums-requires c κs =

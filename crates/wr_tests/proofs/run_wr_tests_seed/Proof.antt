@@ -9,6 +9,7 @@ use Rattle.pine.specs.Record.{streamLen}
 use Rattle.wr_joint_rand.specs.WrJointRand.{wrStream}
 use Rattle.wr_joint_rand.proofs.Seeds.{is-seed}
 use Rattle.pine.specs.Param.{Field64}
+use Rattle.pine.proofs.Words.{words-64}
 use Rattle.wr_tests.proofs.Alone.{refused, met, room, done}
 use Rattle.wr_tests.proofs.run_wr_tests_seed.Statement.{statement}
 use Rattle.wr_tests.proofs.run_wr_tests_seed.Tie as tie
@@ -37,7 +38,7 @@ run-from-seed-requires c κs =
     let v = c .before .before .before .check-seeded .ensures in
     let z = c .before .if1 .left in
     let m = met Field64 (s .args .param) (s .args .gradient .now) (bytes s) (s .args .results .now) _ v z in
-    let w = room Field64 (s .args .param) (s .args .gradient .now) (bytes s) (s .args .results .now) _ v z in
+    let w = room Field64 (s .args .param) (s .args .gradient .now) (bytes s) (s .args .results .now) _ v z words-64 in
     ((is-seed _ (s .args .seed .now) (w .some) (le-of-eq (sym (m .row-2))), w .tests), (m .below, w .per))
 
 same-length-2 : tie.Need-same-length-2
@@ -48,7 +49,7 @@ returns-2 c =
     let s = c .before .before .before .before .before .before .before .before .before .before .before in
     let v = c .before .before .before .before .before .before .check-seeded .ensures in
     let z = c .before .before .before .before .if1 .left in
-    done Field64 (s .args .param) (s .args .gradient .now) (bytes s) (s .args .results .now) _ v z _ (rw (room Field64 (s .args .param) (s .args .gradient .now) (bytes s) (s .args .results .now) _ v z .whole) at (c .before .before .run-from-seed .ensures))
+    done Field64 (s .args .param) (s .args .gradient .now) (bytes s) (s .args .results .now) _ v z words-64 _ (rw (room Field64 (s .args .param) (s .args .gradient .now) (bytes s) (s .args .results .now) _ v z words-64 .whole) at (c .before .before .run-from-seed .ensures))
 
 pub run-wr-tests-seed-spec : {M : Type 1} → statement M
 run-wr-tests-seed-spec =

@@ -7,7 +7,7 @@ use Rattle.pine.proofs.Exponent.{exponent-room}
 use Rattle.pine.proofs.record.wr_test_exponent.Statement.{statement}
 use Rattle.pine.proofs.record.wr_test_exponent.Tie as tie
 
-product-room : (a n : ℕ) → a < 65536 → n ≤ 3037000499 → a * n ≤ 65535 * 3037000499
+product-room : (a n : ℕ) → a < 65536 → n ≤ 4294967295 → a * n ≤ 65535 * 4294967295
 product-room a n h g =
     let l : a ≤ 65535 = omega arith in
     mul-le-mul l g

@@ -2,30 +2,30 @@
 use borrow.Author.Needs.{needs}
 use mathlib.Core.Path.{_≡_, refl, ap, _∙_}
 use Prim.Native.Nat.{ℕ, _+_, _-_, _*_, _^_, _≤_, _<_}
+use native.Mathlib.Nat.{le-trans}
 use native.Mathlib.Omega.{arith}
 use Rattle.pine.specs.declared.PineParam.{PineParam}
-use Rattle.pine.specs.Record.{sqNormBound, sqNormBits, wrTestExponent, wrTestBits, bitCheckedLen, encodedInputLen, inputLen, gadgetCalls, gadgetCallsNorm, pineOf}
-use Rattle.rules.specs.Rules.{accepted}
-use Rattle.pine.specs.Param.{Field64, paramAnswer}
+use Rattle.pine.specs.Param.{Field}
+use Rattle.pine.specs.Record.{sqNormBound, sqNormBits, wrTestExponent, wrTestBits, bitCheckedLen, encodedInputLen, inputLen, gadgetCalls, gadgetCallsNorm, pineOf, Derivable}
 use Rattle.pine.proofs.Digits.{ceil-le}
 use Rattle.pine.proofs.Limits.{Limits}
-use Rattle.pine.proofs.Sizes.{bits-recovered, limits-64, sizes-64}
+use Rattle.pine.proofs.Sizes.{bits-recovered, limits-of, sizes-of}
 use Rattle.pine.proofs.record.Pine.new.Statement.{statement}
 use Rattle.pine.proofs.record.Pine.new.Tie as tie
 use Rattle.pine.proofs.record.Pine.new.Reads as reads
 use Rattle.pine.proofs.record.Pine.new.Lts as lts
 
 -- how large the locals are
-record Known (i : PineParam) (q w : ℕ) : Type 0 where
+record Known (F : Field) (i : PineParam) (q w : ℕ) : Type 0 where
   norm-bits : q ≤ 64
   bound-bits : w ≤ 49
   test-bits : (1 + w) * i .«num_wr_tests» ≤ 50 * 256
-  limits : Limits Field64 i
+  limits : Limits F i
 
-known-of : (i : PineParam) (q w : ℕ) → paramAnswer Field64 i ≡ accepted → q ≡ sqNormBits i → w ≡ wrTestBits i → Known i q w
-known-of i q w a e f =
-    let z = sizes-64 i a in
-    rw (e, f) (record { norm-bits = z .norm-bits; bound-bits = z .bound-bits; test-bits = z .test-bits; limits = limits-64 i a })
+known-of : (i : PineParam) (q w : ℕ) (d : Derivable i) → q ≡ sqNormBits i → w ≡ wrTestBits i → Known (d .F) i q w
+known-of i q w d e f =
+    let z = sizes-of i d in
+    rw (e, f) (record { norm-bits = z .norm-bits; bound-bits = z .bound-bits; test-bits = z .test-bits; limits = limits-of i d })
 
 -- what the locals are, where all of them are known
 module _ (c : tie.After-wr-test-exponent) where
@@ -46,19 +46,20 @@ module _ (c : tie.After-wr-test-exponent) where
   w-is : c .wr-test-exponent .result + 1 ≡ wrTestBits param
   w-is = ap (λ (e : ℕ). e + 1) e-is ∙ bits-recovered param
 
-  known : Known param (c .before .bits .result) (c .wr-test-exponent .result + 1)
+  known : Known (start .pre .F) param (c .before .bits .result) (c .wr-test-exponent .result + 1)
   known = known-of param _ _ (start .pre) q-is w-is
 
 mul-sq-norm-bound : tie.Need-mul-sq-norm-bound
-mul-sq-norm-bound c = record { fits = unfold sqNormBound in sizes-64 (c .before .args .param) (c .before .pre) .norm }
+mul-sq-norm-bound c = record { fits = unfold sqNormBound in sizes-of (c .before .args .param) (c .before .pre) .norm }
 
 bits-requires : tie.Need-bits-requires
 bits-requires c κs = search needs
 
 wr-test-exponent-requires : tie.Need-wr-test-exponent-requires
 wr-test-exponent-requires c κs =
-    let l = limits-64 (c .before .before .args .param) (c .before .before .pre) in
-    (l .alpha-over .0, l .norm .1)
+    let d = c .before .before .pre in
+    let l = limits-of (c .before .before .args .param) d in
+    (l .alpha-over .0, le-trans (l .norm .1) (d .narrow))
 
 cast-wr-test-bits : tie.Need-cast-wr-test-bits
 cast-wr-test-bits c = search needs
