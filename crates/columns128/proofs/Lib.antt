@@ -1,0 +1,2 @@
+-- `Sums` of a group's limbs.
+mod Sums

@@ -1,0 +1,4 @@
+-- What the proofs of the functions cite, beside the laws of `gadgets`: `Parts` of the elements of a part of a row, `Columns` of the room in a sum of products, `Stored` of rows of powers.
+pub mod Parts
+pub mod Columns
+mod Stored

@@ -1,0 +1,2 @@
+-- The limbs of floors.
+pub mod Floors

@@ -1,0 +1,1 @@
+-- The laws are those of `gradient_rules`, over any limit.

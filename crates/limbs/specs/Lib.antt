@@ -1,0 +1,2 @@
+-- The limbs of elements.
+pub mod Limbs

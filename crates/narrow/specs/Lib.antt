@@ -1,0 +1,2 @@
+-- Results over one modulus as results over another.
+pub mod Narrow

@@ -1,0 +1,2 @@
+-- What the proofs of the functions cite: `Places` of an element at its place.
+pub mod Places
