@@ -1,4 +1,4 @@
-/* PINE reports over Field64: the proved calls of libpine_c.a, for C11 and C++11 or later, on x86-64.
+/* PINE reports over Field64 and Field128: the proved calls of libpine_c.a, for C11 and C++11 or later, on x86-64.
  *
  * What it is not: a whole VDAF (verifiable distributed aggregation function). There is no FLP proof (fully linear
  * proof), query or prepare, so two servers that hold only shares cannot check a report with this alone; all
@@ -9,17 +9,19 @@
  * validity, vdaf, day_file, file_add and file_size, or locate_gradient and so on in parts, with the same contract: for
  * ANY numbers and any bytes in its rows it ends, reads and writes inside its rows only, and gives exactly what the
  * definitions in crates/.../specs say, refusals included. docs/PINE.md has these in words, docs/C.md the tables of rows
- * and refusals, and how to link.
+ * and refusals, and how to link. Calls over Field128 have names that begin with pine128_, and are functions of the
+ * crates whose names end in 128; they stand last, and what is said here holds of them too.
  *
  * Numbers. A field number is a uint64_t below p = 2^64 - 2^32 + 1. A row is a pointer and its length in
- * elements, in that order. Derive the lengths by pine_derive.
+ * elements, in that order. Derive the lengths by pine_derive. Over Field128 a field number is two uint64_t, low first,
+ * a row has two words to an element, and its length is in words (pine128_words).
  *
- * Answers. number 0 and place 0: accepted, the arguments were in order. Otherwise number is the first rule
- * broken, in the order 1 to 6, 19, 7, 14, 13, 12, 15, 16, 8 with 17, 9, 21, 10, 18, 11 or 20 in its place, and place is
- * where (enum PineRule; pine_rule_text has each in words). A refused call leaves every row as it was. An accepted call
- * writes every element of its output rows and reads none of what they held before (of an aggregate that is added
- * to or taken from: argument and result; of a file that is added to, the second row is written up to the new length,
- * and no further). A compiler that can warns where an answer is dropped.
+ * Answers. number 0 and place 0: accepted, the arguments were in order. Otherwise number is the first rule broken, in
+ * the order 1 to 6, 19, 7, 14, 13, 12, 23, 15, 16, 8 with 17, 9, 21, 10, 18, 11 or 20 in its place, and place is where
+ * (enum PineRule; pine_rule_text has each in words). A refused call leaves every row as it was. An accepted call
+ * writes every element of its output rows and reads none of what they held before (of an aggregate that is added to or
+ * taken from: argument and result; of a file that is added to, the second row is written up to the new length, and no
+ * further). A compiler that can warns where an answer is dropped.
  *
  * What the caller has to see to, for no proof can:
  * - A pointer is valid for its length, and aligned for its type (8 bytes, 1 for a row of bytes). Give an
@@ -70,6 +72,10 @@ extern "C" {
 /* p, the modulus of Field64. */
 #define PINE_FIELD_MODULUS UINT64_C(0xffffffff00000001)
 
+/* The words of p, the modulus of Field128: 2^128 - 28 * 2^64 + 1. */
+#define PINE128_FIELD_MODULUS_LOW UINT64_C(0x1)
+#define PINE128_FIELD_MODULUS_HIGH UINT64_C(0xffffffffffffffe4)
+
 /* The largest inputs allowed; each is at least 1, but for frac_bits and num_wr_successes. */
 #define PINE_MAX_NORM_BOUND UINT64_C(3037000499)
 #define PINE_MAX_DIMENSION UINT64_C(65536)
@@ -77,6 +83,9 @@ extern "C" {
 #define PINE_MAX_CHUNK_LEN UINT64_C(65536)
 #define PINE_MAX_NUM_WR_TESTS UINT64_C(256)
 #define PINE_MAX_NUM_SHARES UINT64_C(255)
+
+/* That of norm_bound over Field128; the others are the same there. */
+#define PINE128_MAX_NORM_BOUND UINT64_C(4294967295)
 
 /* A day's file: the most entries, and the bytes before them, of an entry's contents, and of its key. */
 #define PINE_MAX_FILE_ENTRIES 1024
@@ -120,8 +129,9 @@ enum PineRule {
     PINE_FILE_FULL = 15,         /* a new key for a file that holds PINE_MAX_FILE_ENTRIES; place 0 */
     PINE_REPORT_COUNT = 16,      /* a key's count of reports is already 4294967295; place: the entry's index in the
                                   * file, from 0 */
-    PINE_FLOOR = 17,             /* a coordinate's floor is below -(p - 1) / 2 or above (p - 1) / 2; place: its
-                                  * index in the gradient. Of 8 and 17 the lower index is answered */
+    PINE_FLOOR = 17,             /* a coordinate's floor is below -(p - 1) / 2 or above (p - 1) / 2; over Field128 below
+                                  * -(2^64 - 1) or above 2^64 - 1; place: its index in the gradient. Of 8 and 17 the
+                                  * lower index is answered */
     PINE_DRAWS = 18,             /* of encoded_input_len + PINE_MORE_DRAWS values drawn for the helper's share, fewer
                                   * than encoded_input_len are below p; place 0 */
     PINE_ALPHA = 19,             /* alpha_numerator or alpha_denominator is 0; place 0 */
@@ -129,8 +139,11 @@ enum PineRule {
                                   * how many are */
     PINE_TRUE_SQ_NORM = 21,      /* with true_sq_norm on, the squared norm without reduction is above
                                   * norm_bound^2; place 0 */
-    PINE_LOAD_SEED = 22          /* the seed of a load is 0; place 0. No call here answers it: the program
+    PINE_LOAD_SEED = 22,         /* the seed of a load is 0; place 0. No call here answers it: the program
                                   * load writes it (docs/LOAD.md) */
+    PINE_SIZE = 23               /* over Field128, an element to be decoded, y, or y - p for y above (p - 1) / 2, is
+                                  * below -(2^64 - 1) or above 2^64 - 1; place: the index of the first such in the
+                                  * decoded row */
 };
 
 /* What an answer's number says, in words; one text for every number that is no rule. */
@@ -159,6 +172,7 @@ static inline const char *pine_rule_text(uint64_t number) {
     case PINE_WR_TESTS_IN_RANGE: return "too few wraparound tests are in range";
     case PINE_TRUE_SQ_NORM: return "the squared norm without reduction is above its bound";
     case PINE_LOAD_SEED: return "the seed of a load is 0";
+    case PINE_SIZE: return "an element is too large to be decoded";
     default: return "no rule has this number";
     }
 }
@@ -178,7 +192,8 @@ typedef struct PineElementPlace {
 /* The element behind a place of rule 12, from the lengths that the call was given. Two rows are joined, rows 1 and
  * 2, in pine_valid, pine_accumulate, pine_merge, pine_subtract, pine_unmerge and pine_unshard. Of
  * pine_run_wr_tests, pine_run_wr_tests_seed, pine_valid_sq_norm_equal and the three parts it is row 1 alone:
- * row2_len is 0. Of pine_file_add the place is an index in the share itself. */
+ * row2_len is 0. Of pine_file_add the place is an index in the share itself. Over Field128, too, places count elements:
+ * row1_len and row2_len are then half of the lengths given, and the words of the element are at 2 * index. */
 static inline PineElementPlace pine_element_place(uint64_t place, size_t row1_len, size_t row2_len) {
     PineElementPlace found = {0, 0};
     if (place < row1_len) {
@@ -292,6 +307,18 @@ typedef struct PineCoordinate {
     uint64_t element;
 } PineCoordinate;
 
+/* An element of Field128: high * 2^64 + low. */
+typedef struct PineElement128 {
+    uint64_t low;
+    uint64_t high;
+} PineElement128;
+
+/* Beside a refusal, element is 0. */
+typedef struct PineCoordinate128 {
+    PineAnswer answer;
+    PineElement128 element;
+} PineCoordinate128;
+
 /* Beside a refusal, value is +0. */
 typedef struct PineDecoded {
     PineAnswer answer;
@@ -310,6 +337,20 @@ typedef struct PineCircuit {
 static inline int pine_is_valid(PineCircuit circuit) {
     return circuit.answer.number == PINE_ACCEPTED && circuit.value == 0;
 }
+
+/* The same of a circuit over Field128. */
+typedef struct PineCircuit128 {
+    PineAnswer answer;
+    PineElement128 value;
+    uint64_t gadget_calls;
+} PineCircuit128;
+
+static inline int pine128_is_valid(PineCircuit128 circuit) {
+    return circuit.answer.number == PINE_ACCEPTED && circuit.value.low == 0 && circuit.value.high == 0;
+}
+
+/* The words of a row of so many elements of Field128. */
+static inline size_t pine128_words(uint64_t elements) { return (size_t)(2 * elements); }
 
 /* A part of the row that was passed: len elements from row + start. Beside a refusal, both are 0. */
 typedef struct PinePart {
@@ -529,6 +570,91 @@ PINE_MUST_USE PineFileLen pine_file_add(PineParam param, PineFileKey key,
  * is no multiple of 8, 15 or 16. */
 PINE_MUST_USE PineFileLen pine_file_size(PineParam param, const uint8_t *keys, size_t keys_len);
 
+/* ---- over Field128
+ *
+ * The calls above by the names without 128, over p = 2^128 - 28 * 2^64 + 1: sums may go beyond Field64's. A row of
+ * elements is one of uint64_t, aligned as such, two to an element, low first: n elements are 2 n words
+ * (pine128_words(n)), and every other length, an odd one too, is 7. pine128_derive gives lengths in elements, as
+ * pine_derive does; below, the length of each row is in words. Places count elements.
+ *
+ * The inputs are the same, with norm_bound up to PINE128_MAX_NORM_BOUND. Client and servers use one field for a report.
+ * A record of pine128_derive goes to pine_wr_test_bound as well. There is no call with a seed, no cutting, no part and
+ * no file over Field128. */
+
+/* Rules 1 to 6, 19. */
+PINE_MUST_USE PineAnswer pine128_check_param(PineParam param);
+
+/* The record and every length, in elements. Rules 1 to 6, 19. */
+PINE_MUST_USE PineDerived pine128_derive(PineParam param);
+
+/* floor(x * 2^frac_bits) modulo p. Rules 4, 8 and 17, place 0. */
+PINE_MUST_USE PineCoordinate128 pine128_f64_to_field(double x, uint64_t frac_bits);
+
+/* The nearest double to y, or to y - p for y above (p - 1) / 2, divided by 2^frac_bits. Rules 4, 12 and 23,
+ * place 0. */
+PINE_MUST_USE PineDecoded pine128_field_to_f64(PineElement128 y, uint64_t frac_bits);
+
+/* Encodes a gradient of doubles (row 1, length d), with a stream of random bytes (row 2, stream_len),
+ * into the measurement (row 3, 2 * encoded_input_len words, low first; written) and the results of the wraparound
+ * tests (row 4, 2 * num_wr_tests words, low first; written). Rules 1 to 6, 19, 7 (rows 2 to 4), 8 and 17, 9, 21, 10,
+ * 11 or 20. */
+PINE_MUST_USE PineAnswer pine128_encode_with_wr_joint_rand(PineParam param,
+                                                           const double *gradient, size_t gradient_len,
+                                                           const uint8_t *stream, size_t stream_len,
+                                                           uint64_t *measurement, size_t measurement_len,
+                                                           uint64_t *results, size_t results_len);
+
+/* The wraparound tests alone, on a share of the gradient's elements (row 1, 2 d words, low first), with the report's
+ * stream (row 2, stream_len), into results (row 3, 2 * num_wr_tests words, low first; written). Rules 1 to 6, 19, 7,
+ * 12. */
+PINE_MUST_USE PineAnswer pine128_run_wr_tests(PineParam param,
+                                              const uint64_t *gradient, size_t gradient_len,
+                                              const uint8_t *stream, size_t stream_len,
+                                              uint64_t *results, size_t results_len);
+
+/* PineType, on a full vector (row 1, 2 * input_len words, low first) with joint randomness (row 2, 6 words: r1, r2, r3,
+ * each low first). Rules 1 to 6, 19, 7, 13, 12. */
+PINE_MUST_USE PineCircuit128 pine128_valid(PineParam param, uint64_t num_shares,
+                                           const uint64_t *full, size_t full_len,
+                                           const uint64_t *joint_rand, size_t joint_rand_len);
+
+/* PineTypeSquaredNormEqual, on a full vector (row 1, 2 * input_len words, low first). Rules 1 to 6, 19, 7, 13, 12. */
+PINE_MUST_USE PineCircuit128 pine128_valid_sq_norm_equal(PineParam param, uint64_t num_shares,
+                                                         const uint64_t *full, size_t full_len);
+
+/* Makes the aggregate of no shares (row 1, 2 d words, low first; written). Rules 1 to 6, 19, 7. */
+PINE_MUST_USE PineAnswer pine128_empty_aggregate(PineParam param, uint64_t *row, size_t row_len);
+
+/* Adds a share (row 2, 2 d words, low first) to an aggregate (row 1, the same; written). Rules 1 to 6, 19, 7, 12. */
+PINE_MUST_USE PineAnswer pine128_accumulate(PineParam param,
+                                            uint64_t *agg, size_t agg_len,
+                                            const uint64_t *share, size_t share_len);
+
+/* Adds another aggregate (row 2, 2 d words, low first) to an aggregate (row 1, the same; written). Rules 1 to 6, 19, 7,
+ * 12. */
+PINE_MUST_USE PineAnswer pine128_merge(PineParam param,
+                                       uint64_t *agg, size_t agg_len,
+                                       const uint64_t *other, size_t other_len);
+
+/* Takes a share (row 2, 2 d words, low first) out of an aggregate (row 1, the same; written), whether or not it was
+ * added. Rules 1 to 6, 19, 7, 12. */
+PINE_MUST_USE PineAnswer pine128_subtract(PineParam param,
+                                          uint64_t *agg, size_t agg_len,
+                                          const uint64_t *share, size_t share_len);
+
+/* Takes another aggregate (row 2, 2 d words, low first) out of an aggregate (row 1, the same; written). Rules 1 to 6,
+ * 19, 7, 12. */
+PINE_MUST_USE PineAnswer pine128_unmerge(PineParam param,
+                                         uint64_t *agg, size_t agg_len,
+                                         const uint64_t *other, size_t other_len);
+
+/* Adds two aggregates (rows 1 and 2, 2 d words each, low first) and decodes the sums (row 3, d doubles, written). Rules
+ * 1 to 6, 19, 7, 12, 23: one sum too large, and the whole row is refused. */
+PINE_MUST_USE PineAnswer pine128_unshard(PineParam param,
+                                         const uint64_t *left, size_t left_len,
+                                         const uint64_t *right, size_t right_len,
+                                         double *decoded, size_t decoded_len);
+
 #ifdef __cplusplus
 }
 #endif
@@ -558,6 +684,10 @@ PINE_ASSERT(sizeof(PineCircuit) == 32);
 PINE_ASSERT(sizeof(PinePart) == 32);
 PINE_ASSERT(sizeof(PineFileKey) == 8);
 PINE_ASSERT(sizeof(PineFileLen) == 24);
+PINE_ASSERT(sizeof(PineElement128) == 16);
+PINE_ASSERT(offsetof(PineElement128, high) == 8);
+PINE_ASSERT(sizeof(PineCoordinate128) == 32);
+PINE_ASSERT(sizeof(PineCircuit128) == 40);
 #undef PINE_ASSERT
 
 #endif

@@ -9,8 +9,8 @@
  * gives the same answer and the same rows; elements given are below p, doubles are no NaN; a report's tests are
  * written by the rule that the inputs name, and with the switch on its true squared norm is within the bound; files and
  * their lengths are those that file_step.h works out; the shares of a report that is cut, and of the sampler, are as
- * cut_step.h says. Every report that is encoded is also cut in two, by hand or here, and taken through all the other
- * calls.
+ * cut_step.h says; what the calls over Field128 give is as wide_step.h says. Every report that is encoded is also cut in
+ * two, by hand or here, and taken through all the other calls.
  *
  * With -DMEMCHECK, under valgrind, the rows that are written are handed over as uninitialised, and what
  * comes back must be initialised throughout. */
@@ -45,15 +45,20 @@ enum Kind {
     CHECK_PARAM, DERIVE, WR_TEST_BOUND, F64_TO_FIELD, FIELD_TO_F64, ENCODE, ENCODE_SEED, RUN_WR_TESTS,
     RUN_WR_TESTS_SEED, CUT, SAMPLE, VALID, VALID_EQUAL, GRADIENT_PART, CHECKED_PART, RESULTS_PART, EMPTY_AGGREGATE,
     ACCUMULATE, MERGE, SUBTRACT, UNMERGE, UNSHARD,
-    FILE_READ, FILE_WRITE, FILE_MAX, FILE_ADD, FILE_SIZE, KINDS
+    FILE_READ, FILE_WRITE, FILE_MAX, FILE_ADD, FILE_SIZE,
+    CHECK_PARAM128, DERIVE128, F64_TO_FIELD128, FIELD_TO_F64128, ENCODE128, RUN_WR_TESTS128, VALID128, VALID_EQUAL128,
+    EMPTY_AGGREGATE128, ACCUMULATE128, MERGE128, SUBTRACT128, UNMERGE128, UNSHARD128, KINDS
 };
 static const char *const names[KINDS] = {
     "check_param", "derive", "wr_test_bound", "f64_to_field", "field_to_f64", "encode_with_wr_joint_rand",
     "encode_with_wr_joint_rand_seed", "run_wr_tests", "run_wr_tests_seed", "cut", "sample", "valid",
     "valid_sq_norm_equal", "gradient_part", "checked_part", "results_part", "empty_aggregate", "accumulate", "merge",
-    "subtract", "unmerge", "unshard", "file_read", "file_write", "file_max", "file_add", "file_size"
+    "subtract", "unmerge", "unshard", "file_read", "file_write", "file_max", "file_add", "file_size",
+    "128_check_param", "128_derive", "128_f64_to_field", "128_field_to_f64", "128_encode_with_wr_joint_rand",
+    "128_run_wr_tests", "128_valid", "128_valid_sq_norm_equal", "128_empty_aggregate", "128_accumulate", "128_merge",
+    "128_subtract", "128_unmerge", "128_unshard"
 };
-enum { LAST_RULE = PINE_TRUE_SQ_NORM };
+enum { LAST_RULE = PINE_SIZE };
 static unsigned long long seed, made, counts[KINDS][LAST_RULE + 1], reports;
 static volatile enum Kind kind;
 
@@ -297,6 +302,12 @@ static void equal(PineAnswer a, PineAnswer b) {
     if (a.number != b.number || a.place != b.place) {
         fail("answers twice otherwise");
     }
+}
+
+/* its words, the byte of the exponent alone in its own */
+static void words_of(const PineDerived *v, uint64_t words[sizeof(PineDerived) / 8]) {
+    memcpy(words, v, sizeof *v);
+    words[offsetof(PineDerived, pine.wr_test_exponent) / 8] = v->pine.wr_test_exponent;
 }
 
 static void all_elements(const uint64_t *row, size_t len) {
@@ -545,6 +556,8 @@ done:
 
 typedef PineAnswer OnTwoRows(PineParam param, uint64_t *agg, size_t agg_len, const uint64_t *other, size_t other_len);
 
+#include "wide_step.h"
+
 static void is_seed(PineAnswer a, size_t n) {
     if (a.number == 0 && n != PINE_SEED_LEN) {
         fail("accepts a seed of another length");
@@ -560,7 +573,11 @@ static void step(void) {
         v = pine_derive(param_in_order());
     }
     size_t d = (size_t)v.pine.dimension;
-    kind = (enum Kind)below(KINDS + 1);
+    kind = (enum Kind)below(KINDS + 2);
+    if (kind >= CHECK_PARAM128 && kind < KINDS) {
+        wide_step(p);
+        return;
+    }
     switch (kind) {
     case CHECK_PARAM: {
         a = pine_check_param(p);
@@ -573,9 +590,7 @@ static void step(void) {
         count(w.answer);
         if (w.answer.number != 0) {
             uint64_t words[sizeof w / 8];
-            memcpy(words, &w, sizeof w);
-            /* a byte and what fills up its word */
-            words[offsetof(PineDerived, pine.wr_test_exponent) / 8] = w.pine.wr_test_exponent;
+            words_of(&w, words);
             for (size_t k = 2; k < sizeof w / 8; k++) {
                 if (words[k] != 0) {
                     fail("gives a length beside a refusal");
@@ -770,10 +785,14 @@ static void step(void) {
         file_step(p, d);
         break;
     }
-    default:
+    case KINDS: {
         p = param_in_order();
         v = pine_derive(p);
         report(p, &v);
+        break;
+    }
+    default:
+        wide_report(param_in_order());
     }
 }
 

@@ -227,3 +227,41 @@ PineAnswer __wrap_pine_sample(PineParam p, const uint8_t *s, size_t sn, uint64_t
     }
     return a;
 }
+
+PineAnswer __real_pine128_accumulate(PineParam p, uint64_t *g, size_t gn, const uint64_t *s, size_t sn);
+PineAnswer __wrap_pine128_accumulate(PineParam p, uint64_t *g, size_t gn, const uint64_t *s, size_t sn);
+PineDecoded __real_pine128_field_to_f64(PineElement128 y, uint64_t frac_bits);
+PineDecoded __wrap_pine128_field_to_f64(PineElement128 y, uint64_t frac_bits);
+PineAnswer __real_pine128_unshard(PineParam p, const uint64_t *l, size_t ln, const uint64_t *r, size_t rn, double *o, size_t on);
+PineAnswer __wrap_pine128_unshard(PineParam p, const uint64_t *l, size_t ln, const uint64_t *r, size_t rn, double *o, size_t on);
+
+/* 33: leaves a last word without its second; 34: names a word, not an element */
+PineAnswer __wrap_pine128_accumulate(PineParam p, uint64_t *g, size_t gn, const uint64_t *s, size_t sn) {
+    PineAnswer a = FAULT == 33 ? __real_pine128_accumulate(p, g, gn / 2 * 2, s, sn / 2 * 2)
+                               : __real_pine128_accumulate(p, g, gn, s, sn);
+    if (FAULT == 34 && a.number == PINE_ELEMENT) {
+        a.place *= 2;
+    }
+    return a;
+}
+
+/* 35: reads the high word first */
+PineDecoded __wrap_pine128_field_to_f64(PineElement128 y, uint64_t frac_bits) {
+    PineElement128 swapped = {y.high, y.low};
+    return __real_pine128_field_to_f64(FAULT == 35 ? swapped : y, frac_bits);
+}
+
+/* 36: sums too large are 0; 37: names the element after the one that is too large */
+PineAnswer __wrap_pine128_unshard(PineParam p, const uint64_t *l, size_t ln, const uint64_t *r, size_t rn, double *o, size_t on) {
+    PineAnswer a = __real_pine128_unshard(p, l, ln, r, rn, o, on);
+    if (FAULT == 36 && a.number == PINE_SIZE) {
+        a.number = a.place = 0;
+        for (size_t k = 0; k < on; k++) {
+            o[k] = 0;
+        }
+    }
+    if (FAULT == 37 && a.number == PINE_SIZE) {
+        a.place++;
+    }
+    return a;
+}

@@ -17,10 +17,11 @@ static void check(int holds, const char *what) {
 
 /* Every rule has a text of its own, and every other number the same one. */
 static void texts(void) {
-    static const uint64_t rules[] = {0, 1, 2, 3, 4, 5, 6, 7, 8, 9, 10, 11, 12, 13, 14, 15, 16, 17, 18, 19, 20, 21, 22};
-    static const uint64_t others[] = {23, 24, UINT64_C(1) << 32, UINT64_MAX};
+    static const uint64_t rules[] = {0, 1, 2, 3, 4, 5, 6, 7, 8, 9, 10, 11, 12, 13, 14, 15, 16, 17, 18, 19, 20, 21, 22,
+                                     23};
+    static const uint64_t others[] = {24, 25, UINT64_C(1) << 32, UINT64_MAX};
     const size_t count = sizeof rules / sizeof *rules;
-    const char *const none = pine_rule_text(23);
+    const char *const none = pine_rule_text(24);
     for (size_t i = 0; i < count; i++) {
         const char *text = pine_rule_text(rules[i]);
         check(text[0] != '\0' && strcmp(text, none) != 0, "a rule has no text");
@@ -70,6 +71,33 @@ static void validity(void) {
     check(pine_is_valid(zero) && !pine_is_valid(one), "pine_is_valid reads another value");
 }
 
+/* Over Field128 a row has two words to an element, and places count elements. */
+static void wide(void) {
+    const PineParam param = pine_param_standard(PINE128_MAX_NORM_BOUND, 2, 0, 16, 2, 10, 10);
+    check(pine128_check_param(param).number == PINE_ACCEPTED, "pine128_check_param refuses the largest norm bound");
+    check(pine128_words(pine128_derive(param).pine.dimension) == 4, "pine128_words gives other words");
+    for (size_t spoilt = 0; spoilt < 4; spoilt++) {
+        uint64_t rows[8] = {1, 2, 3, 4, 5, 6, 7, 8};
+        rows[2 * spoilt] = PINE128_FIELD_MODULUS_LOW;
+        rows[2 * spoilt + 1] = PINE128_FIELD_MODULUS_HIGH;
+        PineAnswer answer = pine128_accumulate(param, rows, 4, rows + 4, 4);
+        check(answer.number == PINE_ELEMENT, "pine128_accumulate takes what is no element");
+        is_at(answer.place, 2, 2, 1 + spoilt / 2, spoilt % 2);
+        rows[2 * spoilt]--;
+        answer = pine128_accumulate(param, rows, 4, rows + 4, 4);
+        check(answer.number == PINE_ACCEPTED, "pine128_accumulate refuses p - 1");
+    }
+    PineCoordinate128 coordinate = pine128_f64_to_field(-1, 0);
+    check(coordinate.element.low == 0 && coordinate.element.high == PINE128_FIELD_MODULUS_HIGH, "-1 has other words");
+    PineDecoded decoded = pine128_field_to_f64(coordinate.element, 1);
+    check(decoded.answer.number == PINE_ACCEPTED && decoded.value == -0.5, "-1 is decoded as another");
+    PineElement128 large = {0, 1};
+    check(pine128_field_to_f64(large, 0).answer.number == PINE_SIZE, "pine128_field_to_f64 takes 2^64");
+    PineCircuit128 refused = {{7, 1}, {0, 0}, 0}, zero = {{0, 0}, {0, 0}, 1}, low = {{0, 0}, {1, 0}, 1}, high = {{0, 0}, {0, 1}, 1};
+    check(!pine128_is_valid(refused) && pine128_is_valid(zero), "pine128_is_valid reads another answer");
+    check(!pine128_is_valid(low) && !pine128_is_valid(high), "pine128_is_valid reads another value");
+}
+
 /* A key's bytes are the address and then the valve, low byte first, and adding takes it by value. */
 static void keys(void) {
     static const uint8_t address[6] = {1, 2, 3, 4, 5, 6};
@@ -92,5 +120,6 @@ int main(void) {
     keys();
     places();
     validity();
+    wide();
     return failed;
 }

@@ -23,16 +23,26 @@ static double draw_sign(void) { return draw() & 1 ? -1 : 1; }
 static uint64_t draw_element(void) { return draw() % P; }
 static uint64_t sub(uint64_t a, uint64_t b) { return a >= b ? a - b : a + (P - b); }
 
+__extension__ typedef unsigned __int128 Wide;
+#define P128 ((Wide)PINE128_FIELD_MODULUS_HIGH << 64 | PINE128_FIELD_MODULUS_LOW)
+
+static Wide draw_wide(void) { return ((Wide)draw() << 64 | draw()) % P128; }
+static Wide wide_sub(Wide a, Wide b) { return a >= b ? a - b : a + (P128 - b); }
+
 /* ---- the rows: those of a public case are made once, those with secrets are filled for each call */
 
 enum {
     GRADIENT, STREAM, SEED, MEASUREMENT, RESULTS, SHARE, AGGREGATE, OTHER, FULL, JOINT_RAND, DECODED, CONTENTS, BODIES,
-    OLD_FILE, NEW_FILE, KEYS, COORDINATE, ELEMENT, NONCE, SEEDS, LEADER, HELPER, TWO_SEEDS, DRAWS, SAMPLED, ROWS
+    OLD_FILE, NEW_FILE, KEYS, COORDINATE, ELEMENT, NONCE, SEEDS, LEADER, HELPER, TWO_SEEDS, DRAWS, SAMPLED,
+    /* over Field128, in words */
+    WIDE_GRADIENT, WIDE_MEASUREMENT, WIDE_RESULTS, WIDE_SHARE, WIDE_AGGREGATE, WIDE_OTHER, WIDE_FULL, WIDE_JOINT_RAND,
+    WIDE_ELEMENT, ROWS
 };
 static const char *const row_names[] = {
     "gradient", "stream", "seed", "measurement", "results", "share", "aggregate", "other", "full", "joint_rand",
     "decoded", "contents", "bodies", "file", "file", "keys", "coordinate", "element", "nonce", "seeds", "leader",
-    "helper", "given", "stream", "sampled",
+    "helper", "given", "stream", "sampled", "gradient", "measurement", "results", "share", "aggregate", "other", "full",
+    "joint_rand", "element",
 };
 static struct {
     uint8_t *at;
@@ -44,6 +54,12 @@ static struct {
 #define WORDS(r) ((uint64_t *)(void *)row[r].at)
 #define BYTES(r) row[r].at
 #define LEN8(r) (row[r].len / 8)
+
+static Wide get(int r, size_t i) { return (Wide)WORDS(r)[2 * i + 1] << 64 | WORDS(r)[2 * i]; }
+static void put(int r, size_t i, Wide x) {
+    WORDS(r)[2 * i] = (uint64_t)x;
+    WORDS(r)[2 * i + 1] = (uint64_t)(x >> 64);
+}
 
 static PineParam param;
 static PineDerived derived;
@@ -145,13 +161,63 @@ static void file_add(void) { GIVES(PineFileLen, add_report(2)); }     /* to an e
 static void file_add_new(void) { GIVES(PineFileLen, add_report(9)); } /* to a new one */
 static void file_size(void) { GIVES(PineFileLen, pine_file_size(param, BYTES(KEYS), row[KEYS].len)); }
 
-#define BIT(r) (1u << (r))
+static void wide_check_param(void) { GIVES(PineAnswer, pine128_check_param(param)); }
+static void wide_derive(void) { GIVES(PineDerived, pine128_derive(param)); }
+static void wide_f64_to_field(void) {
+    GIVES(PineCoordinate128, pine128_f64_to_field(*DOUBLES(COORDINATE), param.frac_bits));
+}
+static void wide_field_to_f64(void) {
+    PineElement128 y = {WORDS(WIDE_ELEMENT)[0], WORDS(WIDE_ELEMENT)[1]};
+    GIVES(PineDecoded, pine128_field_to_f64(y, param.frac_bits));
+}
+static void wide_encode(void) {
+    GIVES(PineAnswer, pine128_encode_with_wr_joint_rand(param, DOUBLES(WIDE_GRADIENT), LEN8(WIDE_GRADIENT),
+                                                         BYTES(STREAM), row[STREAM].len, WORDS(WIDE_MEASUREMENT),
+                                                         LEN8(WIDE_MEASUREMENT), WORDS(WIDE_RESULTS),
+                                                         LEN8(WIDE_RESULTS)));
+}
+static void wide_run_wr_tests(void) {
+    GIVES(PineAnswer, pine128_run_wr_tests(param, WORDS(WIDE_SHARE), LEN8(WIDE_SHARE), BYTES(STREAM), row[STREAM].len,
+                                            WORDS(WIDE_RESULTS), LEN8(WIDE_RESULTS)));
+}
+static void wide_valid(void) {
+    GIVES(PineCircuit128, pine128_valid(param, num_shares, WORDS(WIDE_FULL), LEN8(WIDE_FULL), WORDS(WIDE_JOINT_RAND),
+                                         LEN8(WIDE_JOINT_RAND)));
+}
+static void wide_valid_sq_norm_equal(void) {
+    GIVES(PineCircuit128, pine128_valid_sq_norm_equal(param, num_shares, WORDS(WIDE_FULL), LEN8(WIDE_FULL)));
+}
+static void wide_empty_aggregate(void) {
+    GIVES(PineAnswer, pine128_empty_aggregate(param, WORDS(WIDE_AGGREGATE), LEN8(WIDE_AGGREGATE)));
+}
+static void wide_accumulate(void) {
+    GIVES(PineAnswer, pine128_accumulate(param, WORDS(WIDE_AGGREGATE), LEN8(WIDE_AGGREGATE), WORDS(WIDE_SHARE),
+                                          LEN8(WIDE_SHARE)));
+}
+static void wide_merge(void) {
+    GIVES(PineAnswer, pine128_merge(param, WORDS(WIDE_AGGREGATE), LEN8(WIDE_AGGREGATE), WORDS(WIDE_OTHER),
+                                     LEN8(WIDE_OTHER)));
+}
+static void wide_subtract(void) {
+    GIVES(PineAnswer, pine128_subtract(param, WORDS(WIDE_AGGREGATE), LEN8(WIDE_AGGREGATE), WORDS(WIDE_SHARE),
+                                        LEN8(WIDE_SHARE)));
+}
+static void wide_unmerge(void) {
+    GIVES(PineAnswer, pine128_unmerge(param, WORDS(WIDE_AGGREGATE), LEN8(WIDE_AGGREGATE), WORDS(WIDE_OTHER),
+                                       LEN8(WIDE_OTHER)));
+}
+static void wide_unshard(void) {
+    GIVES(PineAnswer, pine128_unshard(param, WORDS(WIDE_AGGREGATE), LEN8(WIDE_AGGREGATE), WORDS(WIDE_OTHER),
+                                       LEN8(WIDE_OTHER), DOUBLES(DECODED), LEN8(DECODED)));
+}
+
+#define BIT(r) (UINT64_C(1) << (r))
 
 static const struct {
     const char *name;
     void (*call)(void);
-    uint32_t secret;  /* the rows with secrets that it reads */
-    uint32_t written; /* those that it writes */
+    uint64_t secret;  /* the rows with secrets that it reads */
+    uint64_t written; /* those that it writes */
     int times;        /* a call on one number is made so many times as often */
 } calls[] = {
     {"check_param", check_param, 0, 0, 1},
@@ -182,6 +248,20 @@ static const struct {
     {"file_add", file_add, BIT(OLD_FILE) | BIT(SHARE), BIT(NEW_FILE), 1},
     {"file_add(new)", file_add_new, BIT(OLD_FILE) | BIT(SHARE), BIT(NEW_FILE), 1},
     {"file_size", file_size, 0, 0, 1},
+    {"128_check_param", wide_check_param, 0, 0, 1},
+    {"128_derive", wide_derive, 0, 0, 1},
+    {"128_f64_to_field", wide_f64_to_field, BIT(COORDINATE), 0, 40},
+    {"128_field_to_f64", wide_field_to_f64, BIT(WIDE_ELEMENT), 0, 40},
+    {"128_encode_with_wr_joint_rand", wide_encode, BIT(WIDE_GRADIENT), BIT(WIDE_MEASUREMENT) | BIT(WIDE_RESULTS), 1},
+    {"128_run_wr_tests", wide_run_wr_tests, BIT(WIDE_SHARE), BIT(WIDE_RESULTS), 1},
+    {"128_valid", wide_valid, BIT(WIDE_FULL), 0, 1},
+    {"128_valid_sq_norm_equal", wide_valid_sq_norm_equal, BIT(WIDE_FULL), 0, 1},
+    {"128_empty_aggregate", wide_empty_aggregate, 0, BIT(WIDE_AGGREGATE), 1},
+    {"128_accumulate", wide_accumulate, BIT(WIDE_AGGREGATE) | BIT(WIDE_SHARE), BIT(WIDE_AGGREGATE), 1},
+    {"128_merge", wide_merge, BIT(WIDE_AGGREGATE) | BIT(WIDE_OTHER), BIT(WIDE_AGGREGATE), 1},
+    {"128_subtract", wide_subtract, BIT(WIDE_AGGREGATE) | BIT(WIDE_SHARE), BIT(WIDE_AGGREGATE), 1},
+    {"128_unmerge", wide_unmerge, BIT(WIDE_AGGREGATE) | BIT(WIDE_OTHER), BIT(WIDE_AGGREGATE), 1},
+    {"128_unshard", wide_unshard, BIT(WIDE_AGGREGATE) | BIT(WIDE_OTHER), BIT(DECODED), 1},
 };
 enum { CALLS = sizeof calls / sizeof *calls };
 
@@ -268,8 +348,13 @@ static void make_rows(int c) {
     make_row(LEADER, row[MEASUREMENT].len, 0), make_row(HELPER, row[MEASUREMENT].len, 0);
     make_row(TWO_SEEDS, PINE_JOINT_RAND_SEEDS_LEN, 0);
     make_row(DRAWS, row[MEASUREMENT].len + 8 * PINE_MORE_DRAWS, 0), make_row(SAMPLED, row[MEASUREMENT].len, 0);
-    for (int i = 0; i < PINE_JOINT_RAND_LEN; i++) {
+    make_row(WIDE_GRADIENT, 8 * d, 0), make_row(WIDE_ELEMENT, 16, 0);
+    make_row(WIDE_SHARE, 16 * d, 0), make_row(WIDE_AGGREGATE, 16 * d, 0), make_row(WIDE_OTHER, 16 * d, 0);
+    make_row(WIDE_MEASUREMENT, 16 * derived.pine.encoded_input_len, 0), make_row(WIDE_RESULTS, 16 * cases[c].t, 0);
+    make_row(WIDE_FULL, 16 * derived.pine.input_len, 0), make_row(WIDE_JOINT_RAND, 16 * PINE_JOINT_RAND_LEN, 0);
+    for (size_t i = 0; i < PINE_JOINT_RAND_LEN; i++) {
         WORDS(JOINT_RAND)[i] = draw_element();
+        put(WIDE_JOINT_RAND, i, draw_wide());
     }
     for (int i = 0; i < ENTRIES; i++) { /* of the address 2, 4, .., 12: valves 1 to 3 */
         uint8_t entry[PINE_FILE_ENTRY_LEN] = {2, 4, 6, 8, 10, 12, (uint8_t)(1 + i), 0, 5, 0, 0, 0};
@@ -300,24 +385,29 @@ static double coordinate_of(int kind, double each) {
     }
 }
 
-static void fill_gradient(int kind) {
-    size_t d = LEN8(GRADIENT);
-    double scale = derived.pine.scale, *x = DOUBLES(GRADIENT);
+/* Of the row r; in the kind FAR some have these floors, the squares of which cancel modulo the field's p. */
+static void fill_gradient(int r, int kind, const double *floors, size_t n) {
+    size_t d = LEN8(r);
+    double scale = derived.pine.scale, *x = DOUBLES(r);
     double each = 0.9 * (double)param.norm_bound / scale / sqrt((double)d);
     for (size_t i = 0; i < d; i++) {
         x[i] = coordinate_of(kind, each);
     }
     if (kind == FAR && d > 8) {
-        /* 2^96 = -1 modulo p, so these squares cancel: 2^50 and 4, 2^62 and 2^14, 5 * 2^48 and 5 */
-        static const double floors[] = {1125899906842624.0, 4, -4611686018427387904.0, 16384, -1407374883553280.0, 5};
         size_t at = draw() % (d - 8);
-        for (size_t i = 0; i < 6; i++) {
+        for (size_t i = 0; i < n; i++) {
             x[at + i] = floors[i] / scale;
         }
         x[at] += draw() & 1 ? 0.25 / scale : 0; /* floors still */
         x[at + 4] += draw() & 1 ? 0.25 / scale : 0;
     }
 }
+
+/* 2^96 = -1 modulo p, so these squares cancel: 2^50 and 4, 2^62 and 2^14, 5 * 2^48 and 5. */
+static const double far_floors[] = {1125899906842624.0, 4, -4611686018427387904.0, 16384, -1407374883553280.0, 5};
+
+/* The sum of their squares is 3396 above p of Field128. */
+static const double wide_floors[] = {-18446744073709549568.0, 273936771704.0, -490954, 943};
 
 static uint64_t element_of(int kind, uint64_t own) {
     switch (kind) {
@@ -331,18 +421,60 @@ static uint64_t element_of(int kind, uint64_t own) {
     }
 }
 
-/* One double whose floor is in the field's limits, near them too. */
+/* One double whose floor is in the field's limits, near them too; the last two in those of Field128 alone. */
 static double number_of(int kind, double scale) {
     static const double edges[] = {
         0.0, 1.0, 0.3, 1e-300, 2.2250738585072014e-308, 4503599627370496.0, 4503599627370497.0, 1125899906842624.0,
         1125899906842623.75, 1125899906842624.25, 2251799813685248.5, 1e5, 123456.789, 1e15, 1e17, 1.5e18,
-        9223372034707292160.0, 9223372034707291136.0, 8.5e18};
+        9223372034707292160.0, 9223372034707291136.0, 8.5e18, 1.2e19, 18446744073709549568.0};
     double edge = edges[draw() % (sizeof edges / sizeof *edges)];
     switch (kind) {
     case LARGE: return draw_sign() * edge / scale;
     case FAR: return draw_sign() * ldexp(draw_part(), 62) / scale;
     default: return coordinate_of(kind, ldexp(1, (int)(draw() % 49))) / scale;
     }
+}
+
+static Wide wide_element_of(int kind, Wide own) {
+    switch (kind) {
+    case ZERO: return 0;
+    case POSITIVE: return draw() & 0xffff;
+    case TINY: return P128 - 1;
+    case LARGE: return own;
+    case FAR: return P128 - 1 - (draw() >> (draw() & 1 ? 48 : 1));
+    case NONZERO: return (P128 - 1) / 2 - 2 + draw() % 5;
+    default: return draw_wide();
+    }
+}
+
+/* One that can be decoded: a word or less, of either sign. */
+static Wide wide_number(void) {
+    Wide size = draw() >> draw() % 64;
+    return draw() & 1 ? wide_sub(0, size) : size;
+}
+
+/* The rows over Field128, as fill_rows has those over Field64. */
+static void fill_wide(int kind, uint64_t rows) {
+    size_t d = LEN8(WIDE_GRADIENT), measured = LEN8(WIDE_MEASUREMENT) / 2;
+    if (kind == LARGE || (rows & BIT(WIDE_GRADIENT))) {
+        fill_gradient(WIDE_GRADIENT, kind, wide_floors, 4);
+    }
+    if (kind == LARGE) {
+        wide_encode();
+    }
+    int encoded = kind == LARGE && given[0] == PINE_ACCEPTED;
+    for (size_t i = 0; (kind == LARGE || (rows & BIT(WIDE_FULL))) && i < LEN8(WIDE_FULL) / 2; i++) {
+        Wide own = i < measured ? get(WIDE_MEASUREMENT, i) : get(WIDE_RESULTS, i - measured);
+        put(WIDE_FULL, i, wide_element_of(kind, encoded ? own : draw_wide()));
+    }
+    for (size_t i = 0; i < d; i++) {
+        Wide own = get(WIDE_FULL, i) % P128;
+        put(WIDE_SHARE, i, wide_element_of(kind, own));
+        put(WIDE_AGGREGATE, i, wide_element_of(kind, own));
+        /* sums that can be decoded */
+        put(WIDE_OTHER, i, kind == MIXED || kind == LARGE ? wide_sub(wide_number(), get(WIDE_AGGREGATE, i)) : wide_element_of(kind, own));
+    }
+    put(WIDE_ELEMENT, 0, kind == MIXED || kind == NONZERO ? wide_number() : wide_element_of(kind, wide_number()));
 }
 
 /* The values that sample draws from: of two kinds some are not below p, as many as may be skipped. */
@@ -356,11 +488,11 @@ static void fill_draws(int kind) {
 }
 
 /* Fills the rows with secrets that a call reads with values of a kind. A seed is of no kind. */
-static void fill_rows(int kind, uint32_t rows) {
+static void fill_rows(int kind, uint64_t rows) {
     static const int of_elements[] = {SHARE, AGGREGATE, OTHER, BODIES};
     size_t d = LEN8(GRADIENT), measured = LEN8(MEASUREMENT);
     if (kind == LARGE || (rows & BIT(GRADIENT))) {
-        fill_gradient(kind);
+        fill_gradient(GRADIENT, kind, far_floors, 6);
     }
     for (size_t i = 0; i < row[SEED].len; i++) {
         BYTES(SEED)[i] = (uint8_t)(draw() >> 56);
@@ -400,4 +532,7 @@ static void fill_rows(int kind, uint32_t rows) {
     }
     *DOUBLES(COORDINATE) = number_of(kind, derived.pine.scale);
     *WORDS(ELEMENT) = element_of(kind, WORDS(FULL)[0] % P);
+    if (rows >> WIDE_GRADIENT != 0) {
+        fill_wide(kind, rows);
+    }
 }

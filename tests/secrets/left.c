@@ -290,7 +290,7 @@ static void know_cut(void) {
 
 /* What the rows of a call have after it. What it read and wrote over is known from before. */
 static void know_rows(int call) {
-    uint32_t rows = calls[call].secret | calls[call].written;
+    uint64_t rows = calls[call].secret | calls[call].written;
     if (rows & BIT(SEEDS)) {
         know_cut();
         rows |= BIT(MEASUREMENT) | BIT(RESULTS);
@@ -299,7 +299,7 @@ static void know_rows(int call) {
         know_bytes(BYTES(DRAWS), row[DRAWS].len, 8, SHARES);
     }
     static const int of_elements[] = {SHARE, AGGREGATE, OTHER, FULL, BODIES, ELEMENT, MEASUREMENT};
-    static const int of_doubles[] = {GRADIENT, DECODED, COORDINATE};
+    static const int of_doubles[] = {GRADIENT, DECODED, COORDINATE, WIDE_GRADIENT};
     for (size_t i = 0; i < sizeof of_elements / sizeof *of_elements; i++) {
         if (rows & BIT(of_elements[i])) {
             know_elements(WORDS(of_elements[i]), LEN8(of_elements[i]));
@@ -308,6 +308,11 @@ static void know_rows(int call) {
     for (size_t i = 0; i < sizeof of_doubles / sizeof *of_doubles; i++) {
         if (rows & BIT(of_doubles[i])) {
             know_doubles(DOUBLES(of_doubles[i]), LEN8(of_doubles[i]));
+        }
+    }
+    for (int r = WIDE_MEASUREMENT; r < ROWS; r++) {
+        if (rows & BIT(r)) {
+            know_bytes(BYTES(r), row[r].len, 8, ELEMENTS);
         }
     }
     if (rows & BIT(RESULTS)) {
@@ -357,6 +362,8 @@ static const struct {
     {"encode_with_wr_joint_rand_seed", 1000},
     {"run_wr_tests", 1600},
     {"run_wr_tests_seed", 5000},
+    {"128_encode_with_wr_joint_rand", 1000},
+    {"128_run_wr_tests", 1600},
 };
 enum { WIPING = sizeof wiping / sizeof *wiping };
 
@@ -383,6 +390,9 @@ static int measure(int call, int kind) {
     fill_rows(kind, calls[call].secret);
     if (calls[call].secret & BIT(AGGREGATE)) {
         know_elements(WORDS(AGGREGATE), LEN8(AGGREGATE));
+    }
+    if (calls[call].secret & BIT(WIDE_AGGREGATE)) {
+        know_bytes(BYTES(WIDE_AGGREGATE), row[WIDE_AGGREGATE].len, 8, ELEMENTS);
     }
     own_body = calls[call].call;
     on_painted_stack(by_own_stack ? with_own_stack : own_body);

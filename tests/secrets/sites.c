@@ -61,7 +61,7 @@ static void each_call(int call, size_t most_d, int most_times, void (*make)(int 
 
 /* ---- memcheck */
 
-static uint32_t undefined; /* rows */
+static uint64_t undefined; /* rows */
 
 static void make_undefined(int call, int c) {
     (void)c;
@@ -79,7 +79,7 @@ static void make_undefined(int call, int c) {
 }
 
 /* In a process of its own, so that valgrind complains anew. */
-static void complain(int call, uint32_t rows) {
+static void complain(int call, uint64_t rows) {
     fflush(stdout);
     pid_t child = fork();
     if (child == 0) {
@@ -107,7 +107,7 @@ static void complain(int call, uint32_t rows) {
 
 static void memcheck(const char *only) {
     for (int call = 0; call < CALLS; call++) {
-        uint32_t all = calls[call].secret;
+        uint64_t all = calls[call].secret;
         if (only != NULL && strcmp(only, calls[call].name) != 0) {
             continue;
         }

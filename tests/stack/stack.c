@@ -22,6 +22,7 @@ static size_t d, tests, encoded, full, stream_len;
 static double *gradient, *decoded;
 static uint64_t *elements, *measurement, *results, *other, joint_rand[PINE_JOINT_RAND_LEN] = {3, 5, 7};
 static uint64_t *leader, *helper;
+static uint64_t *wide_elements, *wide_other, *wide_measurement, *wide_results, wide_joint_rand[6] = {3, 0, 5, 0, 7, 0};
 static uint8_t *stream, *draws, *file, *second, keys[8 * 1100], given[PINE_JOINT_RAND_SEEDS_LEN];
 static size_t file_len;
 static const uint8_t seed[PINE_SEED_LEN] = {1, 2, 3, 5, 8, 13, 21, 34, 55, 89, 144, 233};
@@ -96,6 +97,33 @@ static void file_add(void) {
 }
 static void file_size(void) { taken += pine_file_size(param, keys, sizeof keys - 8 * (d % 100)).len; }
 
+static void wide_check_param(void) { taken += pine128_check_param(param).number; }
+static void wide_derive(void) { taken += pine128_derive(param).answer.number; }
+static void wide_f64_to_field(void) { taken += pine128_f64_to_field(-0.3, param.frac_bits).element.low; }
+static void wide_field_to_f64(void) {
+    PineElement128 y = {wide_elements[0], wide_elements[1]};
+    taken += pine128_field_to_f64(y, param.frac_bits).answer.number;
+}
+static void wide_encode(void) {
+    taken += pine128_encode_with_wr_joint_rand(param, gradient, d, stream, stream_len, wide_measurement, 2 * encoded,
+                                               wide_results, 2 * tests).number;
+}
+static void wide_run_wr_tests(void) {
+    taken += pine128_run_wr_tests(param, wide_elements, 2 * d, stream, stream_len, wide_results, 2 * tests).number;
+}
+static void wide_valid(void) { taken += pine128_valid(param, 2, wide_measurement, 2 * full, wide_joint_rand, 6).value.low; }
+static void wide_valid_sq_norm_equal(void) {
+    taken += pine128_valid_sq_norm_equal(param, 2, wide_measurement, 2 * full).value.low;
+}
+static void wide_empty_aggregate(void) { taken += pine128_empty_aggregate(param, wide_other, 2 * d).number; }
+static void wide_accumulate(void) { taken += pine128_accumulate(param, wide_other, 2 * d, wide_elements, 2 * d).number; }
+static void wide_merge(void) { taken += pine128_merge(param, wide_other, 2 * d, wide_elements, 2 * d).number; }
+static void wide_subtract(void) { taken += pine128_subtract(param, wide_other, 2 * d, wide_elements, 2 * d).number; }
+static void wide_unmerge(void) { taken += pine128_unmerge(param, wide_other, 2 * d, wide_elements, 2 * d).number; }
+static void wide_unshard(void) {
+    taken += pine128_unshard(param, wide_elements, 2 * d, wide_other, 2 * d, decoded, d).number;
+}
+
 static const struct {
     const char *name;
     void (*call)(void);
@@ -127,6 +155,20 @@ static const struct {
     {"file_max", file_max},
     {"file_add", file_add},
     {"file_size", file_size},
+    {"128_check_param", wide_check_param},
+    {"128_derive", wide_derive},
+    {"128_f64_to_field", wide_f64_to_field},
+    {"128_field_to_f64", wide_field_to_f64},
+    {"128_encode_with_wr_joint_rand", wide_encode},
+    {"128_run_wr_tests", wide_run_wr_tests},
+    {"128_valid", wide_valid},
+    {"128_valid_sq_norm_equal", wide_valid_sq_norm_equal},
+    {"128_empty_aggregate", wide_empty_aggregate},
+    {"128_accumulate", wide_accumulate},
+    {"128_merge", wide_merge},
+    {"128_subtract", wide_subtract},
+    {"128_unmerge", wide_unmerge},
+    {"128_unshard", wide_unshard},
 };
 enum { CALLS = sizeof calls / sizeof *calls };
 
@@ -151,12 +193,14 @@ int main(void) {
                 gradient = (double *)calloc(d, 8), decoded = (double *)calloc(d, 8);
                 elements = (uint64_t *)calloc(d, 8), other = (uint64_t *)calloc(d, 8);
                 measurement = (uint64_t *)calloc(full, 8), results = (uint64_t *)calloc(tests, 8);
+                wide_elements = (uint64_t *)calloc(d, 16), wide_other = (uint64_t *)calloc(d, 16);
+                wide_measurement = (uint64_t *)calloc(full, 16), wide_results = (uint64_t *)calloc(tests, 16);
                 leader = (uint64_t *)calloc(encoded, 8), helper = (uint64_t *)calloc(encoded, 8);
                 stream = (uint8_t *)calloc(stream_len, 1), draws = (uint8_t *)calloc(encoded + PINE_MORE_DRAWS, 8);
                 file_len = 18 + 8 * d, file = (uint8_t *)calloc(file_len, 1), second = (uint8_t *)calloc(2 * file_len, 1);
                 for (size_t i = 0; i < d; i++) {
                     gradient[i] = (double)(i % 3) / 4;
-                    elements[i] = i * i;
+                    elements[i] = wide_elements[2 * i] = i * i;
                 }
                 for (size_t i = 0; i < stream_len; i++) {
                     stream[i] = (uint8_t)(i * 37);
@@ -164,15 +208,18 @@ int main(void) {
                 for (size_t i = 0; i < sizeof keys; i++) { /* 1100 keys, of which as many differ */
                     keys[i] = (uint8_t)(i % 8 < 6 ? 1 + i % 8 : i % 8 == 6 ? i / 8 : i / 2048);
                 }
-                /* refused by 8, 12 and 18, by 4, by 7 */
+                /* refused by 8, 12 and 18, by 4, by 7, by 23 */
                 if (wrong == 1) {
                     gradient[d - 1] = 1e-310;
                     memset(draws, 255, 8 * (encoded + PINE_MORE_DRAWS));
                     elements[d - 1] = measurement[full - 1] = PINE_FIELD_MODULUS;
+                    wide_elements[2 * d - 1] = wide_measurement[2 * full - 1] = UINT64_MAX;
                 } else if (wrong == 2) {
                     param.frac_bits = 31;
                 } else if (wrong == 3) {
                     d--, full--;
+                } else if (wrong == 4) {
+                    wide_elements[2 * d - 1] = 1;
                 }
                 for (size_t c = 0; c < CALLS; c++) {
                     size_t used = measure(calls[c].call) - base;
@@ -180,6 +227,7 @@ int main(void) {
                 }
                 free(gradient), free(decoded), free(elements), free(other), free(measurement), free(results), free(stream);
                 free(leader), free(helper), free(draws), free(file), free(second);
+                free(wide_elements), free(wide_other), free(wide_measurement), free(wide_results);
             }
         }
     }

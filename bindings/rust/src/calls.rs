@@ -32,19 +32,19 @@ use crate::param::{Derived, PineParam};
 /// ```
 #[derive(Clone, Copy, Debug, PartialEq, Eq)]
 #[must_use = "an accepted call means that the arguments were in order; the report is valid where the value is 0"]
-pub struct Circuit {
+pub struct Circuit<E = u64> {
     /// A field number: 0 for a report that is in order.
-    pub value: u64,
+    pub value: E,
     /// One for each chunk taken.
     pub gadget_calls: u64,
 }
 
-impl Circuit {
+impl<E: Default + PartialEq> Circuit<E> {
     /// Whether the value is 0: of a whole full vector, with num_shares 1, whether this circuit finds it in order. Both
     /// circuits must.
     #[must_use]
-    pub const fn is_valid(self) -> bool {
-        self.value == 0
+    pub fn is_valid(self) -> bool {
+        self.value == E::default()
     }
 }
 
@@ -71,13 +71,16 @@ pub fn check_param(param: PineParam) -> Result<(), Error> {
 /// Those of [`check_param`].
 pub fn derive(param: PineParam) -> Result<Derived, Error> {
     // SAFETY: numbers by value.
-    let derived = unsafe { ffi::pine_derive(param.into()) };
-    result(derived.answer)?;
+    derived(unsafe { ffi::pine_derive(param.into()) })
+}
+
+pub(crate) fn derived(given: ffi::Derived) -> Result<Derived, Error> {
+    result(given.answer)?;
     Ok(Derived {
-        record: derived.pine,
-        stream_len: derived.stream_len,
-        flp: derived.flp,
-        flp_sq_norm_equal: derived.flp_sq_norm_equal,
+        record: given.pine,
+        stream_len: given.stream_len,
+        flp: given.flp,
+        flp_sq_norm_equal: given.flp_sq_norm_equal,
     })
 }
 

@@ -20,7 +20,8 @@ pub struct Error {
 macro_rules! rules {
     ($($(#[$doc:meta])* $name:ident = $number:literal: $sentence:literal,)*) => {
         /// The rules. A call tests its rules in one order and answers with the first that is broken: 1 to 6, 19, 7, 14,
-        /// 13, 12, 15, 16, 8 with 17, 9, 21, 10, 18, 11 or 20. docs/PINE.md of the project, "The rules", has the table.
+        /// 13, 12, 23, 15, 16, 8 with 17, 9, 21, 10, 18, 11 or 20. docs/PINE.md of the project, "The rules", has the
+        /// table.
         #[derive(Clone, Copy, Debug, PartialEq, Eq, Hash)]
         #[non_exhaustive]
         pub enum Rule {
@@ -64,7 +65,8 @@ macro_rules! rules {
 
 rules! {
     NumWrSuccesses = 1: "num_wr_successes is above num_wr_tests",
-    NormBound = 2: "norm_bound is not from 1 to 3037000499",
+    /// That is 3037000499 over Field64, 4294967295 over Field128.
+    NormBound = 2: "norm_bound is 0 or above its limit",
     Dimension = 3: "dimension is not from 1 to 65536",
     FracBits = 4: "frac_bits is above 30",
     ChunkLen = 5: "a chunk length is not from 1 to 65536",
@@ -88,8 +90,9 @@ rules! {
     FileFull = 15: "the file holds 1024 keys, and this is a new one",
     /// The place is the entry's index in the file, from 0.
     ReportCount = 16: "the key's count of reports is already 4294967295",
-    /// The place is its index; of this rule and [`Rule::Coordinate`] the lower index is answered.
-    Floor = 17: "the floor of a coordinate is beyond (p - 1) / 2 either way",
+    /// That is (p - 1) / 2 over Field64, 2^64 - 1 over Field128. The place is its index; of this rule and
+    /// [`Rule::Coordinate`] the lower index is answered.
+    Floor = 17: "the floor of a coordinate is beyond its limit either way",
     /// Of the helper's share: encoded_input_len values below p are wanted of
     /// [`MORE_DRAWS`](crate::MORE_DRAWS) more. Another seed may do.
     Draws = 18: "too few of the values drawn are below p",
@@ -101,6 +104,8 @@ rules! {
     TrueSqNorm = 21: "the true squared norm is above its bound",
     /// No call answers it: the program `load` writes it.
     LoadSeed = 22: "the seed of a load is 0",
+    /// Over Field128 only. The place is its index in the decoded row.
+    Size = 23: "an element to be decoded is beyond 2^64 - 1 either way",
 }
 
 impl Error {
@@ -127,6 +132,7 @@ impl fmt::Display for Error {
             Rule::Element => write!(f, ", element {place} of the rows read"),
             Rule::WrTestsInRange => write!(f, ", {place} in range"),
             Rule::ReportCount => write!(f, ", entry {place}"),
+            Rule::Size => write!(f, ", sum {place}"),
             Rule::Other(_) => write!(f, ", place {place}"),
             _ => Ok(()),
         }?;

@@ -73,6 +73,41 @@ pub struct Circuit {
     pub gadget_calls: u64,
 }
 
+/// `PineElement128` of the header: an element of Field128 as its words.
+#[repr(C)]
+pub struct Element128 {
+    low: u64,
+    high: u64,
+}
+
+impl From<u128> for Element128 {
+    fn from(element: u128) -> Element128 {
+        Element128 {
+            low: element as u64,
+            high: (element >> 64) as u64,
+        }
+    }
+}
+
+impl From<Element128> for u128 {
+    fn from(element: Element128) -> u128 {
+        u128::from(element.high) << 64 | u128::from(element.low)
+    }
+}
+
+#[repr(C)]
+pub struct Coordinate128 {
+    pub answer: Answer,
+    pub element: Element128,
+}
+
+#[repr(C)]
+pub struct Circuit128 {
+    pub answer: Answer,
+    pub value: Element128,
+    pub gadget_calls: u64,
+}
+
 #[repr(C)]
 pub struct Part {
     pub answer: Answer,
@@ -170,6 +205,9 @@ layouts! {
     Circuit is "PineCircuit", 32: answer: Answer = 0, value: u64 = 16, gadget_calls: u64 = 24;
     Part is "PinePart", 32: answer: Answer = 0, start: u64 = 16, len: u64 = 24;
     FileLen is "PineFileLen", 24: answer: Answer = 0, len: u64 = 16;
+    Element128 is "PineElement128", 16: low: u64 = 0, high: u64 = 8;
+    Coordinate128 is "PineCoordinate128", 32: answer: Answer = 0, element: Element128 = 16;
+    Circuit128 is "PineCircuit128", 40: answer: Answer = 0, value: Element128 = 16, gadget_calls: u64 = 32;
 }
 
 // a row's length is a size_t there, and the lengths that are derived are 64-bit numbers
@@ -329,4 +367,80 @@ extern "C" {
         second_len: usize,
     ) -> FileLen;
     pub fn pine_file_size(param: Inputs, keys: *const u8, keys_len: usize) -> FileLen;
+    pub fn pine128_check_param(param: Inputs) -> Answer;
+    pub fn pine128_derive(param: Inputs) -> Derived;
+    pub fn pine128_f64_to_field(x: f64, frac_bits: u64) -> Coordinate128;
+    pub fn pine128_field_to_f64(y: Element128, frac_bits: u64) -> Decoded;
+    pub fn pine128_encode_with_wr_joint_rand(
+        param: Inputs,
+        gradient: *const f64,
+        gradient_len: usize,
+        stream: *const u8,
+        stream_len: usize,
+        measurement: *mut u64,
+        measurement_len: usize,
+        results: *mut u64,
+        results_len: usize,
+    ) -> Answer;
+    pub fn pine128_run_wr_tests(
+        param: Inputs,
+        gradient: *const u64,
+        gradient_len: usize,
+        stream: *const u8,
+        stream_len: usize,
+        results: *mut u64,
+        results_len: usize,
+    ) -> Answer;
+    pub fn pine128_valid(
+        param: Inputs,
+        num_shares: u64,
+        full: *const u64,
+        full_len: usize,
+        joint_rand: *const u64,
+        joint_rand_len: usize,
+    ) -> Circuit128;
+    pub fn pine128_valid_sq_norm_equal(
+        param: Inputs,
+        num_shares: u64,
+        full: *const u64,
+        full_len: usize,
+    ) -> Circuit128;
+    pub fn pine128_empty_aggregate(param: Inputs, row: *mut u64, row_len: usize) -> Answer;
+    pub fn pine128_accumulate(
+        param: Inputs,
+        agg: *mut u64,
+        agg_len: usize,
+        share: *const u64,
+        share_len: usize,
+    ) -> Answer;
+    pub fn pine128_merge(
+        param: Inputs,
+        agg: *mut u64,
+        agg_len: usize,
+        other: *const u64,
+        other_len: usize,
+    ) -> Answer;
+    pub fn pine128_subtract(
+        param: Inputs,
+        agg: *mut u64,
+        agg_len: usize,
+        share: *const u64,
+        share_len: usize,
+    ) -> Answer;
+    pub fn pine128_unmerge(
+        param: Inputs,
+        agg: *mut u64,
+        agg_len: usize,
+        other: *const u64,
+        other_len: usize,
+    ) -> Answer;
+    pub fn pine128_unshard(
+        param: Inputs,
+        left: *const u64,
+        left_len: usize,
+        right: *const u64,
+        right_len: usize,
+        decoded: *mut f64,
+        decoded_len: usize,
+    ) -> Answer;
 }

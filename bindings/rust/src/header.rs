@@ -3,8 +3,9 @@ extern crate std;
 
 use crate::ffi::LAYOUTS;
 use crate::{
-    Error, Rule, CUT_SEEDS_LEN, FIELD_MODULUS, FILE_ENTRY_LEN, FILE_HEADER_LEN, FILE_KEY_LEN,
-    JOINT_RAND_LEN, JOINT_RAND_SEEDS_LEN, MAX_FILE_ENTRIES, MORE_DRAWS, NONCE_LEN, SEED_LEN,
+    Error, Rule, CUT_SEEDS_LEN, FIELD128_MODULUS, FIELD_MODULUS, FILE_ENTRY_LEN, FILE_HEADER_LEN,
+    FILE_KEY_LEN, JOINT_RAND_LEN, JOINT_RAND_SEEDS_LEN, MAX_FILE_ENTRIES, MORE_DRAWS, NONCE_LEN,
+    SEED_LEN,
 };
 use std::format;
 use std::string::{String, ToString};
@@ -82,7 +83,7 @@ fn every_rule_has_the_headers_number() {
 
 #[test]
 fn an_unknown_number_is_kept() {
-    for number in [23, 24, u64::MAX] {
+    for number in [24, 25, u64::MAX] {
         let refusal = Error::of(number, 5).unwrap_err();
         assert_eq!(refusal.rule, Rule::Other(number));
         assert_eq!(refusal.rule.number(), number);
@@ -100,6 +101,14 @@ fn the_constants_are_the_headers() {
     assert!(text.contains(&format!(
         "#define PINE_FIELD_MODULUS UINT64_C({FIELD_MODULUS:#x})"
     )));
+    for (word, number) in [
+        ("LOW", FIELD128_MODULUS as u64),
+        ("HIGH", (FIELD128_MODULUS >> 64) as u64),
+    ] {
+        assert!(text.contains(&format!(
+            "#define PINE128_FIELD_MODULUS_{word} UINT64_C({number:#x})"
+        )));
+    }
     assert!(text.contains(&format!("#define PINE_JOINT_RAND_LEN {JOINT_RAND_LEN}")));
     for (name, number) in [
         ("SEED_LEN", SEED_LEN),

@@ -1,4 +1,4 @@
-//! PINE reports over Field64: a client encodes a gradient, servers add shares of it. For x86-64 only.
+//! PINE reports over Field64 and Field128: a client encodes a gradient, servers add shares of it. For x86-64 only.
 //!
 //! Safe functions over the calls of `libpine_c.a`, which are proved: each ends for any arguments, stays inside its
 //! rows, and gives exactly what its definition says. A function here only hands rows over and turns the answer into a
@@ -9,6 +9,7 @@
 //! ([`Share`], [`Aggregate`] and so on). The same calls stand beside it as functions over the inputs and plain slices.
 //! A server that keeps its aggregates by controller and valve has them in one file: `DayFile` (feature `alloc`) grows
 //! as reports are added to it, and [`file_add`] and its siblings do the same over the caller's rows.
+//! [`Pine128`] and the functions of [`field128`] are the calls over Field128, for sums beyond Field64, over rows of `u128`.
 //!
 #![cfg_attr(feature = "alloc", doc = "```")]
 #![cfg_attr(not(feature = "alloc"), doc = "```ignore")]
@@ -72,6 +73,7 @@ extern crate alloc;
 mod calls;
 mod error;
 mod ffi;
+pub mod field128;
 mod file;
 #[cfg(test)]
 mod header;
@@ -91,9 +93,9 @@ pub use file::{file_add, file_max, file_read, file_size, file_write, FileKey};
 #[cfg(feature = "alloc")]
 pub use file::{DayFile, FileEntry, FileRows};
 pub use param::{Derived, Lengths, PineParam, Record, WrTestRule};
-pub use pine::Pine;
 #[cfg(feature = "alloc")]
 pub use pine::{Cut, Encoded};
+pub use pine::{Pine, Pine128};
 pub use rows::{
     Aggregate, FileBodies, FileBytes, FileContents, Full, FullShare, Gradient, Measurement,
     MeasurementShare, Results, Share,
@@ -105,6 +107,9 @@ pub use seed::{
 
 /// p, the modulus of Field64.
 pub const FIELD_MODULUS: u64 = 0xffff_ffff_0000_0001;
+
+/// p, the modulus of Field128.
+pub const FIELD128_MODULUS: u128 = 0xffff_ffff_ffff_ffe4_0000_0000_0000_0001;
 
 /// How many elements of joint randomness [`valid`](crate::valid()) takes: r1, r2, r3.
 pub const JOINT_RAND_LEN: usize = 3;

@@ -23,8 +23,8 @@ use crate::ffi;
 #[derive(Clone, Copy, Debug, PartialEq, Eq, Hash)]
 #[must_use]
 pub struct PineParam {
-    /// The bound of the norm of the floors of the gradient times 2^frac_bits, from 1 to 3037000499. So it is in units
-    /// of 2^-frac_bits: with ceil(β · 2^frac_bits + √dimension) no gradient of Euclidean norm up to β is refused by
+    /// The bound of the norm of the floors of the gradient times 2^frac_bits, from 1 to 3037000499, over Field128 to
+    /// 4294967295. So it is in units of 2^-frac_bits: with ceil(β · 2^frac_bits + √dimension) no gradient of Euclidean norm up to β is refused by
     /// [`Rule::SqNorm`](crate::Rule::SqNorm) or [`Rule::TrueSqNorm`](crate::Rule::TrueSqNorm).
     pub norm_bound: u64,
     /// The length of the gradient, from 1 to 65536.

@@ -1,7 +1,11 @@
 //! Rows by what they hold.
 
 macro_rules! row {
-    ($(#[$doc:meta])* $name:ident of $element:ty) => {
+    // field numbers: of u64 over Field64, of u128 over Field128
+    ($(#[$doc:meta])* $name:ident of elements) => {
+        row! { $(#[$doc])* $name of E, <E> }
+    };
+    ($(#[$doc:meta])* $name:ident of $element:ty $(, <$any:ident>)?) => {
         $(#[$doc])*
         ///
         /// `R` is any row of them: a slice, an array, a `Vec`. Nothing is tested when it is made: the calls do that.
@@ -23,18 +27,22 @@ macro_rules! row {
             }
         }
 
-        impl<R: AsRef<[$element]>> $name<R> {
+        impl<R> $name<R> {
             /// Its elements.
             #[must_use]
-            pub fn row(&self) -> &[$element] {
+            pub fn row$(<$any>)?(&self) -> &[$element]
+            where
+                R: AsRef<[$element]>,
+            {
                 self.0.as_ref()
             }
-        }
 
-        impl<R: AsMut<[$element]>> $name<R> {
             /// Its elements, to be written.
             #[must_use]
-            pub fn row_mut(&mut self) -> &mut [$element] {
+            pub fn row_mut$(<$any>)?(&mut self) -> &mut [$element]
+            where
+                R: AsMut<[$element]>,
+            {
                 self.0.as_mut()
             }
         }
@@ -48,7 +56,7 @@ row! {
 row! {
     /// An encoded gradient, whole: encoded_input_len field numbers. A client keeps it, and gives each of two servers
     /// one of two rows that add up to it.
-    Measurement of u64
+    Measurement of elements
 }
 row! {
     /// A server's row of a cut measurement, the leader's or the helper's: encoded_input_len field numbers. The first
@@ -57,12 +65,12 @@ row! {
 }
 row! {
     /// The results of the wraparound tests: num_wr_tests field numbers.
-    Results of u64
+    Results of elements
 }
 row! {
     /// A full vector, whole: a measurement, then its results; input_len field numbers. It is what two full shares add
     /// up to, and whoever has it sees the report.
-    Full of u64
+    Full of elements
 }
 row! {
     /// A server's full share: its row of the cut measurement, then the results of the tests on the row's first
@@ -85,7 +93,7 @@ row! {
     ///     Ok(pine.valid_sq_norm_equal(share)?.value)
     /// }
     /// ```
-    FullShare of u64
+    FullShare of elements
 }
 row! {
     /// A share as it is tested, added and taken out: the first dimension elements of a server's row. Its output share,
@@ -118,11 +126,11 @@ row! {
     ///     pine.accumulate(to, whole)
     /// }
     /// ```
-    Share of u64
+    Share of elements
 }
 row! {
     /// The sum of shares, modulo p: dimension field numbers. An aggregate share, in the VDAF draft's words.
-    Aggregate of u64
+    Aggregate of elements
 }
 row! {
     /// A day's file, or what may be one: bytes.

@@ -352,7 +352,7 @@ fn errors_say_what_is_wrong() {
         Box::new(check_param(param(0, 1, 0, 1, 1)).unwrap_err());
     assert_eq!(
         error.to_string(),
-        "norm_bound is not from 1 to 3037000499 (rule 2)"
+        "norm_bound is 0 or above its limit (rule 2)"
     );
     let refusal = |number, place| {
         Error {
