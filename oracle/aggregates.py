@@ -9,24 +9,30 @@ import itertools
 import math
 from typing import Callable, NamedTuple
 
-from common import (BROKEN, HALF, INPUTS, OK, P, TOP, Case, Inputs, Kind, below, bits_of, case_of, changed, combined, damage,
-                    draw_small, element, elements, faults, first, first_rule, lent, near, patterns, refused, resized, rule_7,
-                    rule_12, vec)
+from common import (BROKEN, FIELD64, HALF, INPUTS, OK, P, TOP, Case, Inputs, Kind, below, bits_of, case_of, changed,
+                    combined, damage, draw_small, element, elements, faults, first, first_rule, length, lent, other_row,
+                    patterns, refused, rule_7, rule_12, rule_23, vec)
 from singles import TOPS, tie
 
 
 TAKING = ("subtract", "unmerge")
 
 
-def added(agg, share, sign=1):
-    return [(a + sign * b) % P for a, b in zip(agg, share)]
+def added(agg, share, sign=1, field=FIELD64):
+    return [(a + sign * b) % field.p for a, b in zip(agg, share)]
 
 
 def adding(kind, inputs, agg, share):
     """merge, accumulate, subtract or unmerge. The aggregate is argument and result, so no other row is lent."""
-    want = first(refused(first_rule(inputs)), rule_7((len(agg), inputs.d), (len(share), inputs.d)), rule_12(agg, share))
+    want = first(refused(first_rule(inputs)), adding_rules(inputs, agg, share))
     sign = -1 if kind in TAKING else 1
-    return case_of(kind, inputs, f" {vec(agg)} {vec(share)}", want, lambda: vec(added(agg, share, sign)), kind in TAKING)
+    return case_of(kind, inputs, f" {vec(agg)} {vec(share)}", want, lambda: vec(added(agg, share, sign, inputs.field)),
+                   kind in TAKING)
+
+
+def adding_rules(inputs, agg, share):
+    """Rules 7 and 12."""
+    return first(rule_7((length(agg), inputs.d), (length(share), inputs.d)), rule_12(agg, share, field=inputs.field))
 
 
 def aggregate(inputs, rows, out=()):
@@ -34,98 +40,106 @@ def aggregate(inputs, rows, out=()):
     row = out[0] if out else inputs.d
     want = first(refused(first_rule(inputs)), rule_7((row, inputs.d)))
     agg = [0] * inputs.d if want == OK else []
-    want = first(want, *(first(rule_7((len(agg), inputs.d), (len(share), inputs.d)), rule_12(agg, share)) for share in rows))
-    return case_of("aggregate", inputs, f" {' '.join([str(len(rows)), *map(vec, rows)])}{lent(out)}", want,
-                   lambda: vec(functools.reduce(added, rows, agg)))
+    want = first(want, *(adding_rules(inputs, agg, share) for share in rows))
+    return case_of("aggregate", inputs, f" {' '.join([str(len(rows)), *map(vec, rows)])}{lent(out, inputs.field)}", want,
+                   lambda: vec(functools.reduce(functools.partial(added, field=inputs.field), rows, agg)))
 
 
-def decoded_to(y, f):
+def decoded_to(y, f, field=FIELD64):
     """The bits of the nearest double to the centred y, divided by 2^f."""
-    return bits_of(math.ldexp(float(y if y <= HALF else y - P), -f))
+    return bits_of(math.ldexp(float(field.centre(y)), -f))
 
 
 def unshard(inputs, left, right, out=()):
-    decoded = out[0] if out else inputs.d
-    want = first(refused(first_rule(inputs)), rule_7(*((n, inputs.d) for n in (len(left), len(right), decoded))),
-                 rule_12(left, right))
+    decoded, field = out[0] if out else inputs.d, inputs.field
+    want = first(refused(first_rule(inputs)), rule_7(*((n, inputs.d) for n in (length(left), length(right), decoded))),
+                 rule_12(left, right, field=field), rule_23(added(left, right, field=field), field))
     return case_of("unshard", inputs, f" {vec(left)} {vec(right)}{lent(out)}", want,
-                   lambda: patterns([decoded_to(y, inputs.f) for y in added(left, right)]))
+                   lambda: patterns([decoded_to(y, inputs.f, field) for y in added(left, right, field=field)]))
 
 
-# Sums where the sign, the digits of a double or the field turn.
-SUMS = (0, 1, HALF - 1, HALF, HALF + 1, HALF + 2, 2**53 - 1, 2**53, 2**53 + 1, 2**53 + 2, 2**53 + 3, 2**54 + 2, 2**54 + 6,
-        P - 2**53 - 3, P - 2**53 - 1, P - 2**53, P - 2, P - 1)
+def sums(field):
+    """Where the sign, the digits of a double, the field or what can be decoded turn."""
+    p, half, most = field.p, field.p // 2, field.centred
+    at_most = () if most == half else (most - 1, most, most + 1, p - most - 1, p - most, p - most + 1)
+    return (0, 1, half - 1, half, half + 1, half + 2, 2**53 - 1, 2**53, 2**53 + 1, 2**53 + 2, 2**53 + 3, 2**54 + 2, 2**54 + 6,
+            p - 2**53 - 3, p - 2**53 - 1, p - 2**53, p - 2, p - 1, *at_most)
 
 
-def completed(rng, left):
-    """An element whose sum with the first is one that matters, or any."""
-    way = below(rng, 4)
+SUMS = sums(FIELD64)
+
+
+def completed(rng, left, field):
+    """An element whose sum with the first is one that matters, or any. Most of the sums can be decoded."""
+    way = below(rng, 4 if field is FIELD64 else 80)
     if way == 0:
-        return (near(rng, rng.choice(SUMS)) - left) % P
-    if way == 1:
+        return (max(rng.choice(sums(field)) + below(rng, 5) - 2, 0) - left) % field.p
+    if way == 1 or 4 <= way < 30:
         total = tie(54 + below(rng, 10), rng.choice(TOPS), below(rng, 3) - 1)
-        return (rng.choice((total, -total)) - left) % P
-    return element(rng)
+        return (rng.choice((total, -total)) - left) % field.p
+    if way < 4:
+        return element(rng, field)
+    return (rng.randint(-field.centred, field.centred) - left) % field.p
 
 
 def two_rows(rng, inputs, wrong, sign=1):
     """Two rows of d elements, with the faults named; for the sign -1 it is their difference that matters."""
-    length = inputs.d if inputs.d <= 64 else 3
-    left = elements(rng, length)
-    rows = [left, [sign * completed(rng, x) % P for x in left]]
+    field = inputs.field
+    left = elements(rng, inputs.d if inputs.d <= 64 else 3, field)
+    rows = [left, [sign * completed(rng, x, field) % field.p for x in left]]
     for name in wrong:
         if name in ("left", "right"):
             i = ("left", "right").index(name)
-            rows[i] = resized(rng, rows[i], element)
+            rows[i] = other_row(rng, rows[i], field)
         elif name == "element":
             i = below(rng, 2)
-            rows[i] = damage(rng, rows[i])
+            rows[i] = damage(rng, rows[i], field)
     return rows
 
 
-def other_len(rng, length):
-    return rng.choice([n for n in (0, length - 1, length + 1, length + 4, 2 * length) if 0 <= n != length])
+def other_len(rng, length, halves):
+    lengths = (0, length - 1, length + 1, length + 4, 2 * length, *(length - 0.5, length + 0.5) * halves)
+    return rng.choice([n for n in lengths if 0 <= n != length])
 
 
-def draw_out(rng, inputs, lengths, wrong):
+def draw_out(rng, inputs, lengths, wrong, halves=None):
     """The lent rows' lengths: derived, and most often not named; wrong; or any, where the inputs are refused anyway."""
-    lengths = list(lengths)
+    lengths, halves = list(lengths), inputs.field.words == 2 if halves is None else halves
     if first_rule(inputs):
         return [below(rng, 13) for _ in lengths] if rng.getrandbits(1) else []
     if wrong:
         i = below(rng, len(lengths))
-        lengths[i] = other_len(rng, lengths[i])
+        lengths[i] = other_len(rng, lengths[i], halves)
         return lengths
     return lengths if below(rng, 8) == 0 else []
 
 
 def draw_adding(kind):
-    def draw(rng, later=None):
+    def draw(rng, later=None, field=FIELD64):
         wrong = faults(rng, [*INPUTS, "left", "right", "element", "element"])
-        inputs = draw_small(rng, wrong, later)
+        inputs = draw_small(rng, wrong, later, field=field)
         return adding(kind, inputs, *two_rows(rng, inputs, wrong, -1 if kind in TAKING else 1))
     return draw
 
 
-def draw_aggregate(rng, later=None):
+def draw_aggregate(rng, later=None, field=FIELD64):
     wrong = faults(rng, [*INPUTS, "row", "row", "element", "element", "out"])
-    inputs = draw_small(rng, wrong, later)
-    length = inputs.d if inputs.d <= 64 else 3
-    rows = [elements(rng, length) for _ in range(below(rng, 6))]
+    inputs = draw_small(rng, wrong, later, field=field)
+    rows = [elements(rng, inputs.d if inputs.d <= 64 else 3, field) for _ in range(below(rng, 6))]
     for name in wrong:
         if name == "row" and rows:
             i = below(rng, len(rows))
-            rows[i] = resized(rng, rows[i], element)
+            rows[i] = other_row(rng, rows[i], field)
         elif name == "element" and rows:
             i = below(rng, len(rows))
-            rows[i] = damage(rng, rows[i])
+            rows[i] = damage(rng, rows[i], field)
     return aggregate(inputs, rows, draw_out(rng, inputs, (inputs.d,), "out" in wrong))
 
 
-def draw_unshard(rng, later=None):
+def draw_unshard(rng, later=None, field=FIELD64):
     wrong = faults(rng, [*INPUTS, "left", "right", "element", "element", "out"])
-    inputs = draw_small(rng, wrong, later)
-    return unshard(inputs, *two_rows(rng, inputs, wrong), draw_out(rng, inputs, (inputs.d,), "out" in wrong))
+    inputs = draw_small(rng, wrong, later, field=field)
+    return unshard(inputs, *two_rows(rng, inputs, wrong), draw_out(rng, inputs, (inputs.d,), "out" in wrong, halves=False))
 
 
 # Lists of calls
@@ -135,15 +149,22 @@ class Call(NamedTuple):
     writes: int | None              # which of them an accepted call makes anew
 
 
-def begin(rng, d, i):
-    inputs = draw_small(rng, d=d)
+def draw_share(rng, field, d):
+    """Over Field128 most often one that can be decoded with a hundred others."""
+    if field is FIELD64 or below(rng, 8) == 0:
+        return elements(rng, d, field)
+    return [rng.randint(-2**57, 2**57) % field.p for _ in range(d)]
+
+
+def begin(rng, field, d, i):
+    inputs = draw_small(rng, d=d, field=field)
     return Call(lambda rows: aggregate(inputs, []), i)
 
 
-def draw_call(rng, d, many, shares):
-    """A call on so many aggregates of d elements. The shares are those drawn before: one of them may be drawn again."""
+def draw_call(rng, field, d, many, shares):
+    """A call on so many aggregates of d elements of a field. The shares are those drawn before: one of them may be drawn again."""
     wrong = faults(rng, [*INPUTS, "dimension", "share", "element"]) if below(rng, 3) == 0 else []
-    inputs = draw_small(rng, wrong, d=d + 1 + below(rng, 3) if "dimension" in wrong else d)
+    inputs = draw_small(rng, wrong, d=d + 1 + below(rng, 3) if "dimension" in wrong else d, field=field)
     i = below(rng, many)
     j = (i + 1 + below(rng, many - 1)) % many
     way = below(rng, 24)
@@ -161,12 +182,12 @@ def draw_call(rng, d, many, shares):
     if kind == "subtract" and shares and below(rng, 4):
         share = rng.choice(shares)
     else:
-        share = elements(rng, d)
+        share = draw_share(rng, field, d)
         shares.append(share)
     if "share" in wrong:
-        share = resized(rng, share, element)
+        share = other_row(rng, share, field)
     if "element" in wrong:
-        share = damage(rng, share)
+        share = damage(rng, share, field)
     return Call(lambda rows: adding(kind, inputs, rows[i], share), i)
 
 

@@ -31,10 +31,12 @@ import seeds
 import singles
 import test_rule
 import true_length
+import wide
 from common import BAD, NONE, OK, TOP, Case, below
 
 KINDS = {**singles.KINDS, **reports.KINDS, **seeds.KINDS, **cuts.KINDS, **circuits.KINDS, **parts.KINDS,
-         **aggregates.KINDS, **multiplier.KINDS, **test_rule.KINDS, **true_length.KINDS, **load.KINDS, **files.KINDS}
+         **aggregates.KINDS, **multiplier.KINDS, **test_rule.KINDS, **true_length.KINDS, **load.KINDS, **files.KINDS,
+         **wide.KINDS}
 
 
 # Malformed lines, and lines without an answer
@@ -45,6 +47,9 @@ NOT_DECIMAL = ("a", "ff", "1f", "0x1")
 # The word after the seven inputs is a count.
 COUNTED = ("merge", "accumulate", "aggregate", "unshard", "encode", "wrtests", *seeds.KINDS, "cut", *aggregates.TAKING,
            *parts.KINDS)
+
+# The second word is hexadecimal, of so many bits.
+SINGLE = {"coord": 64, "decode": 64, "coord128": 64, "decode128": 128}
 
 
 def spoil_later(rng, words):
@@ -85,15 +90,15 @@ def spoil_words(rng, words):
         words[at] = rng.choice([word for word in NONSENSE if word != "-"])     # which stands for no bytes
     elif kind == "load":    # whose word is no number
         words[1] = rng.choice((words[1] + "0", words[1][:-1] + "g", "0x" + words[1]))
-    elif way == 4 and len(words) > 8 and kind in COUNTED:
+    elif way == 4 and len(words) > 8 and kind.removesuffix("128") in COUNTED:
         words[8] = str(rng.choice((2**32, 2**63, TOP)) + below(rng, 2) * below(rng, 9) - 9)
     else:
         at = rng.randrange(1, min(len(words), 8))   # the first seven after the name are numbers in every kind
-        hexadecimal = at == 2 and kind in ("coord", "decode")
+        hexadecimal = at == 2 and kind in SINGLE
         if way == 5:
             words[at] = rng.choice(NONSENSE if hexadecimal else NONSENSE + NOT_DECIMAL)
         elif hexadecimal:
-            words[at] = f"{int(words[at], 16) + (1 << rng.choice((64, 65, 68, 128))):x}"
+            words[at] = f"{int(words[at], 16) + (1 << rng.choice((64, 65, 68, 128)) + SINGLE[kind] - 64):x}"
         else:
             words[at] = str(int(words[at]) + (1 << rng.choice((64, 65, 68, 128))))
     return words
@@ -127,8 +132,7 @@ def edges(kinds):
         yield from KINDS[kind].sweep()
 
 
-# In the gate's list, beside each kind's limits and the drawn ones.
-MALFORMED = 25
+# In the gate's list.
 LONGEST = 1500
 
 
@@ -144,6 +148,6 @@ def gate(seed):
         yield from itertools.islice(drawn, kind.drawn)
         yield silent()
         yield silent(f"# {name}: malformed")
-        for case in itertools.islice(drawn, MALFORMED):
+        for case in itertools.islice(drawn, kind.malformed):
             yield spoil(rng, case)
         yield silent()

@@ -13,6 +13,7 @@ from typing import Callable, Iterable, NamedTuple
 P = 2**64 - 2**32 + 1
 HALF = (P - 1) // 2
 TOP = 2**64 - 1
+P128 = 2**128 - 28 * 2**64 + 1
 
 OK = "ok"
 BAD = "bad"
@@ -31,6 +32,7 @@ class Kind(NamedTuple):
     limits: Callable[[], Iterable[Case]] = lambda: ()
     sweep: Callable[[], Iterable[Case]] = lambda: ()
     drawn: int = 80     # so many in the gate's list
+    malformed: int = 25     # and so many malformed ones
     worked_out: bool = False    # whether the original has no such call, and an accepted case says what it gives
 
 
@@ -39,13 +41,43 @@ class Kind(NamedTuple):
 INPUTS = "ndfceTK"
 LIMITS = {"n": (1, 3037000499), "d": (1, 65536), "f": (0, 30), "c": (1, 65536), "e": (1, 65536), "T": (1, 256)}
 
+
+class Field(NamedTuple):
+    """What depends on the field that a call is over."""
+    name: str           # what the names of its kinds end in
+    p: int
+    words: int          # of an element in a row
+    most_n: int
+    floor: int          # the greatest size of a floor, by rule 17
+    centred: int        # the greatest size of a number that is decoded, by rule 23
+    elements: tuple     # where a sum, a word, the digits of a double or the field turn
+    not_elements: tuple
+
+    def limits(self, name):
+        return (1, self.most_n) if name == "n" else LIMITS[name]
+
+    def centre(self, y):
+        return y if y <= self.p // 2 else y - self.p
+
+
+FIELD64 = Field("", P, 1, LIMITS["n"][1], HALF, HALF,
+                (0, 1, 2, P - 1, P - 2, HALF - 1, HALF, HALF + 1, 2**31, 2**32 - 1, 2**32, 2**32 + 1,
+                 2**53 - 1, 2**53, 2**53 + 1, 2**63 - 1, 2**63),
+                (P, P + 1, P + 2**31, TOP - 1, TOP))
+
+HALF128 = (P128 - 1) // 2
+FIELD128 = Field("128", P128, 2, 2**32 - 1, TOP, TOP,
+                 (0, 1, 2, P128 - 1, P128 - 2, HALF128 - 1, HALF128, HALF128 + 1, 2**53 - 1, 2**53, 2**53 + 1, TOP - 1, TOP,
+                  TOP + 1, TOP + 2, P128 - TOP - 2, P128 - TOP - 1, P128 - TOP, P128 - TOP + 1, 2**64 - 29 << 64, 2**127),
+                 (P128, P128 + 1, P128 + TOP, 2**64 - 27 << 64, TOP << 64, 2**128 - 2, 2**128 - 1))
+
 # Where a narrower or a signed number would go wrong, or the original's shift does.
 WIDE = (127, 128, 255, 256, 2**16, 2**31 - 1, 2**31, 2**32 - 1, 2**32, 2**32 + 1, 2**53 - 1, 2**53, 2**53 + 1,
         HALF, HALF + 1, 2**63 - 1, 2**63, 2**63 + 1, P - 1, P, TOP - 1, TOP)
 
 
-def within(name, x):
-    low, high = LIMITS[name]
+def within(name, x, field=FIELD64):
+    low, high = field.limits(name)
     return low <= x <= high
 
 
@@ -62,9 +94,9 @@ def near(rng, x):
     return clamp(x + below(rng, 5) - 2, 0, TOP)
 
 
-def allowed(rng, name):
+def allowed(rng, name, field=FIELD64):
     """A number within its limits: an edge, by a power of two, of any length, or any."""
-    low, high = LIMITS[name]
+    low, high = field.limits(name)
     way = below(rng, 4)
     if way == 0:
         return rng.choice((low, low + 1, high - 1, high))
@@ -75,9 +107,9 @@ def allowed(rng, name):
     return rng.randint(low, high)
 
 
-def broken(rng, name):
+def broken(rng, name, field=FIELD64):
     """A number outside its limits: just outside, one that looks right in its low half, by a wide one, or any."""
-    low, high = LIMITS[name]
+    low, high = field.limits(name)
     while True:
         way = below(rng, 5)
         if way == 0:
@@ -90,7 +122,7 @@ def broken(rng, name):
             x = near(rng, 1 << below(rng, 64))
         else:
             x = rng.getrandbits(1 + below(rng, 64))
-        if not within(name, x):
+        if not within(name, x, field):
             return x
 
 
@@ -119,6 +151,7 @@ class Inputs(NamedTuple):
     T: int
     K: int
     later: Later | None = None      # the Rust's, where none are written
+    field: Field = FIELD64
 
     @property
     def setting(self):
@@ -157,11 +190,11 @@ def sizes(inputs):
 
 
 @functools.lru_cache
-def steps(later):
+def steps(later, field=FIELD64):
     """The last n before n x n gets one more binary digit or the test bound doubles, and the first n after."""
     num, den = max(later.num, 1), later.den
     return sorted({n for k in range(64) for last in (math.isqrt(2**k - 1), den * (2**k - 1) // num)
-                   for n in (last, last + 1) if within("n", n)})
+                   for n in (last, last + 1) if within("n", n, field)})
 
 
 STEPS = steps(RUST)
@@ -182,29 +215,29 @@ def successes(rng, t, wrong):
     return min(k, TOP)
 
 
-def draw_inputs(rng, wrong="", later=None):
+def draw_inputs(rng, wrong="", later=None, field=FIELD64):
     """Seven inputs, of which those named in `wrong` break their rule, and the later ones given."""
     def pick(name):
-        return broken(rng, name) if name in wrong else allowed(rng, name)
-    n = rng.choice(steps(later or RUST)) if "n" not in wrong and below(rng, 3) == 0 else pick("n")
+        return broken(rng, name, field) if name in wrong else allowed(rng, name, field)
+    n = rng.choice(steps(later or RUST, field)) if "n" not in wrong and below(rng, 3) == 0 else pick("n")
     d, f, t = pick("d"), pick("f"), pick("T")
     length = sizes(Inputs(n, d, f, 1, 1, t, 0, later)).checked if rng.getrandbits(1) else t
     c = broken(rng, "c") if "c" in wrong else chunk(rng, length)
     e = broken(rng, "e") if "e" in wrong else chunk(rng, d)
-    return Inputs(n, d, f, c, e, t, successes(rng, t, "K" in wrong), later)
+    return Inputs(n, d, f, c, e, t, successes(rng, t, "K" in wrong), later, field)
 
 
-# Outside the limits, and still no more than the original can find memory for.
+# Outside the limits, and still no more than the original can find memory for; of n, such as are.
 OUTSIDE = {"n": (0, 3037000500, 2**32 - 1, 2**32, 2**63, TOP), "d": (0, 0, 0, 65537), "f": (31, 32, 33, 64, 127, 128, TOP),
            "c": (0, 0, 65537), "e": (0, 0, 65537), "T": (0, 0, 257)}
 
 
-def draw_small(rng, wrong=(), later=None, d=0):
+def draw_small(rng, wrong=(), later=None, d=0, field=FIELD64):
     """As draw_inputs, with few coordinates and tests, for a call that has rows; d may be given."""
     if "n" in wrong:
-        n = rng.choice(OUTSIDE["n"])
+        n = rng.choice([n for n in OUTSIDE["n"] if not within("n", n, field)])
     else:
-        n = rng.choice(steps(later or RUST)) if rng.getrandbits(1) else allowed(rng, "n")
+        n = rng.choice(steps(later or RUST, field)) if rng.getrandbits(1) else allowed(rng, "n", field)
     if "d" in wrong:
         d = rng.choice(OUTSIDE["d"])
     elif not d:
@@ -214,7 +247,7 @@ def draw_small(rng, wrong=(), later=None, d=0):
     checked = sizes(Inputs(n, d, f, 1, 1, t, 0, later)).checked
     c = rng.choice(OUTSIDE["c"]) if "c" in wrong else small_chunk(rng, (checked, checked, t))
     e = rng.choice(OUTSIDE["e"]) if "e" in wrong else small_chunk(rng, (d,))
-    return Inputs(n, d, f, c, e, t, successes(rng, t, "K" in wrong), later)
+    return Inputs(n, d, f, c, e, t, successes(rng, t, "K" in wrong), later, field)
 
 
 def small_chunk(rng, lengths):
@@ -242,10 +275,10 @@ def refused(rule, place=0):
 
 def first_rule(inputs):
     """The first of rules 1 to 6 and 19 that the inputs break, 0 for none."""
-    n, d, f, c, e, t, k, later = inputs
+    n, d, f, c, e, t, k, later, field = inputs
     if k > t:
         return 1
-    if not within("n", n):
+    if not within("n", n, field):
         return 2
     if not within("d", d):
         return 3
@@ -268,14 +301,19 @@ def rule_7(*rows):
     return OK
 
 
-def rule_12(*rows):
+def rule_12(*rows, field=FIELD64):
     at = 0
     for row in rows:
         for x in row:
-            if x >= P:
+            if x >= field.p:
                 return refused(12, at)
             at += 1
     return OK
+
+
+def rule_23(row, field):
+    """Of numbers that are decoded."""
+    return next((refused(23, at) for at, y in enumerate(row) if abs(field.centre(y)) > field.centred), OK)
 
 
 def rule_13(num_shares):
@@ -288,8 +326,17 @@ def first(*answers):
 
 # Words
 
+class Words(list):
+    """A row given word by word, of which there may be an odd number; the original takes no such row."""
+
+
+def length(row):
+    """In elements: over Field128 there can be half of one."""
+    return len(row) / FIELD128.words if isinstance(row, Words) else len(row)
+
+
 def vec(row):
-    return " ".join([str(len(row)), *map("{:x}".format, row)])
+    return " ".join([*["words"] * isinstance(row, Words), str(len(row)), *map("{:x}".format, row)])
 
 
 def patterns(row):
@@ -300,14 +347,15 @@ def octets(stream):
     return stream.hex() or "-"
 
 
-def lent(out):
-    """The lengths of lent rows, where a case names them."""
-    return " out " + " ".join(map(str, out)) if out else ""
+def lent(out, field=FIELD64):
+    """The lengths of lent rows, where a case names them: in elements here, in words there."""
+    return " out " + " ".join(str(int(n * field.words)) for n in out) if out else ""
 
 
 def case_of(kind, inputs, rest, want, given, worked_out=False):
     """A case of the inputs. What `given` works out, an accepted one must give where the original has no such call and
     where later inputs are written; it is held to the original too, if it has the call and the multiplier is the Rust's."""
+    kind += inputs.field.name
     plain = f"{kind} {inputs}{rest}"
     if want == OK and (worked_out or inputs.later):
         want = f"{OK} {given()}"
@@ -343,41 +391,51 @@ def floor_of(bits, f):
     return digits << shift if shift >= 0 else digits >> -shift
 
 
-def coordinate_rule(bits, f):
+def coordinate_rule(bits, f, field=FIELD64):
     """Which of rules 8 and 17 refuses a coordinate, 0 for none."""
     if not usable(bits):
         return 8
-    return 0 if -HALF <= floor_of(bits, f) <= HALF else 17
+    return 0 if abs(floor_of(bits, f)) <= field.floor else 17
 
 
 # Elements
 
-ELEMENTS = (0, 1, 2, P - 1, P - 2, HALF - 1, HALF, HALF + 1, 2**31, 2**32 - 1, 2**32, 2**32 + 1,
-            2**53 - 1, 2**53, 2**53 + 1, 2**63 - 1, 2**63)
-NOT_ELEMENTS = (P, P + 1, P + 2**31, TOP - 1, TOP)
-
-
-def element(rng):
+def element(rng, field=FIELD64):
     way = below(rng, 4)
     if way == 0:
-        return rng.choice(ELEMENTS)
+        return rng.choice(field.elements)
     if way == 1:
-        return (below(rng, 2001) - 1000) % P
+        return (below(rng, 2001) - 1000) % field.p
     if way == 2:
-        return rng.getrandbits(1 + below(rng, 64)) % P
-    return rng.randrange(P)
+        return rng.getrandbits(1 + below(rng, 64 * field.words)) % field.p
+    return rng.randrange(field.p)
 
 
-def elements(rng, length):
-    return [element(rng) for _ in range(length)]
+def elements(rng, length, field=FIELD64):
+    return [element(rng, field) for _ in range(length)]
 
 
-def damage(rng, row):
-    """The row with one element, or a few, that are not below p."""
+def damage(rng, row, field=FIELD64):
+    """The row with one element, or a few, that are not below p; one with an odd number of words as it is."""
+    if isinstance(row, Words):
+        return row
     row = list(row)
     for _ in range(1 + below(rng, 2) if row else 0):
-        row[below(rng, len(row))] = rng.choice(NOT_ELEMENTS)
+        row[below(rng, len(row))] = rng.choice(field.not_elements)
     return row
+
+
+def other_row(rng, row, field=FIELD64):
+    """The row with another length; over Field128 also with an odd number of words."""
+    if field.words == 2 and below(rng, 3) == 0:
+        return odd(row, rng.choice((-1, 1)))
+    return resized(rng, row, lambda rng: element(rng, field))
+
+
+def odd(row, more):
+    """A row of elements with a word more, or a word less."""
+    words = Words(itertools.chain.from_iterable((x & TOP, x >> 64) for x in row))
+    return Words((words + [0])[:len(words) + more]) if words else Words([0])
 
 
 def resized(rng, row, more):

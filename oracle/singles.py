@@ -3,8 +3,9 @@
 import itertools
 import math
 
-from common import (EXPONENT, HALF, INPUTS, LIMITS, P, SIGN, STEPS, TOP, Case, Inputs, Kind, allowed, below, bits_of, broken,
-                    case_of, clamp, coordinate_rule, draw_inputs, first_rule, near, refused, sizes, within)
+from common import (EXPONENT, FIELD64, HALF, INPUTS, LIMITS, P, SIGN, STEPS, TOP, Case, Inputs, Kind, allowed, below, bits_of,
+                    broken, case_of, clamp, coordinate_rule, draw_inputs, first, first_rule, near, refused, rule_12, rule_23,
+                    sizes, within)
 
 # params
 
@@ -29,8 +30,8 @@ def params(*inputs):
     return case_of("params", inputs, "", refused(first_rule(inputs)), lambda: record(inputs))
 
 
-def draw_params(rng, later=None):
-    return params(*draw_inputs(rng, rng.sample(INPUTS, rng.choice((0, 0, 0, 0, 0, 1, 1, 2, 3))), later))
+def draw_params(rng, later=None, field=FIELD64):
+    return params(*draw_inputs(rng, rng.sample(INPUTS, rng.choice((0, 0, 0, 0, 0, 1, 1, 2, 3))), later, field))
 
 
 PLAIN = {"n": 65536, "d": 1000, "f": 15, "c": 40, "e": 32, "T": 100, "K": 90}
@@ -89,9 +90,10 @@ def sweep_params():
 
 # coord
 
-def coord(f, bits):
-    rule = coordinate_rule(bits, f) if within("f", f) else 4
-    return Case("coord", f"coord {f} {bits:016x}", refused(rule))
+def coord(f, bits, field=FIELD64):
+    rule = coordinate_rule(bits, f, field) if within("f", f) else 4
+    kind = "coord" + field.name
+    return Case(kind, f"{kind} {f} {bits:016x}", refused(rule))
 
 
 def over(x, f, ulps=0):
@@ -109,7 +111,7 @@ TOO_FINE = (31, 32, 33, 63, 64, 127, 128, 2**31, 2**32, 2**32 + 15, 2**53, 2**63
 MARKS = (0.5, 1, 2, 3, 2**31, 2**32, 2**52, 2**53, 2**62, HALF, 2**63, P, 2**64 - 2048, 2**64, 2**65)
 
 
-def draw_coord(rng):
+def draw_coord(rng, field=FIELD64):
     f = draw_f(rng)
     way = below(rng, 8)
     if way == 0:    # the edge of a binade
@@ -127,7 +129,7 @@ def draw_coord(rng):
     else:           # as a gradient has them
         x = abs(rng.gauss(0, 1)) * 10 ** rng.randrange(-6, 7)
         bits = bits_of(round(x, 2) if way == 6 else x)
-    return coord(f, bits | rng.getrandbits(1) << 63)
+    return coord(f, bits | rng.getrandbits(1) << 63, field)
 
 
 def limits_coord():
@@ -166,9 +168,10 @@ def sweep_coord():
 
 # decode
 
-def decode(f, y):
-    rule = 4 if not within("f", f) else 0 if y < P else 12
-    return Case("decode", f"decode {f} {y:x}", refused(rule))
+def decode(f, y, field=FIELD64):
+    kind = "decode" + field.name
+    want = first(refused(0 if within("f", f) else 4), rule_12([y], field=field), rule_23([y], field))
+    return Case(kind, f"{kind} {f} {y:x}", want)
 
 
 def tie(length, top, off=0):

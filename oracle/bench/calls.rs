@@ -2,23 +2,24 @@
 
 use crate::{
     by_hand_calls::{self as by_hand, Outcome, Param},
-    fields, row,
+    field::{fields, random_row, words, Adding, Answer, Circuit, Field},
+    row,
     stream::{give, Given},
-    way, words, Random, Row, Title, Way, Ways, FRAC_BITS, SCALE,
+    way, Random, Row, Title, Way, Ways, FRAC_BITS, SCALE,
 };
 use pine_oracle::{
     cut::{up_to_proofs, UpToProofs},
     fields::pine,
     pine::{
-        opened::{derived, elements, new, pine_vec, run_wr_tests, to_f64, to_field},
+        opened::{derived, elements, pine_vec, run_wr_tests, to_f64, to_field},
         vdaf::PineVec,
-        Pine64,
+        Pine,
     },
     xofs::WatchedXof,
 };
 use prio_draft09::{
     codec::Decode,
-    field::Field64,
+    field::{Field128, Field64},
     flp::{FlpError, Gadget, Type},
     vdaf::{
         xof::{IntoFieldVec, Seed, Xof, XofTurboShake128},
@@ -27,20 +28,6 @@ use prio_draft09::{
 };
 use rand::RngCore;
 use std::{any::Any, cell::Cell, rc::Rc};
-
-#[repr(C)]
-#[derive(Debug, PartialEq)]
-struct Answer {
-    number: u64,
-    place: u64,
-}
-
-#[repr(C)]
-struct Circuit {
-    answer: Answer,
-    value: u64,
-    gadget_calls: u64,
-}
 
 #[repr(C)]
 struct Coordinate {
@@ -74,17 +61,6 @@ extern "C" {
     fn pine_derive(param: Param) -> Derived;
     fn pine_f64_to_field(x: f64, frac_bits: u64) -> Coordinate;
     fn pine_field_to_f64(y: u64, frac_bits: u64) -> Decoded;
-    fn pine_encode_with_wr_joint_rand(
-        param: Param,
-        gradient: *const f64,
-        gradient_len: usize,
-        stream: *const u8,
-        stream_len: usize,
-        measurement: *mut u64,
-        measurement_len: usize,
-        results: *mut u64,
-        results_len: usize,
-    ) -> Answer;
     fn pine_encode_with_wr_joint_rand_seed(
         param: Param,
         gradient: *const f64,
@@ -93,15 +69,6 @@ extern "C" {
         seed_len: usize,
         measurement: *mut u64,
         measurement_len: usize,
-        results: *mut u64,
-        results_len: usize,
-    ) -> Answer;
-    fn pine_run_wr_tests(
-        param: Param,
-        gradient: *const u64,
-        gradient_len: usize,
-        stream: *const u8,
-        stream_len: usize,
         results: *mut u64,
         results_len: usize,
     ) -> Answer;
@@ -130,31 +97,12 @@ extern "C" {
         given_len: usize,
     ) -> Answer;
     fn pine_sample(param: Param, stream: *const u8, stream_len: usize, share: *mut u64, share_len: usize) -> Answer;
-    fn pine_valid(
-        param: Param,
-        num_shares: u64,
-        full: *const u64,
-        full_len: usize,
-        joint_rand: *const u64,
-        joint_rand_len: usize,
-    ) -> Circuit;
-    fn pine_valid_sq_norm_equal(param: Param, num_shares: u64, full: *const u64, full_len: usize) -> Circuit;
     fn pine_gradient_part(param: Param, full: *const u64, full_len: usize) -> Part;
     fn pine_checked_part(param: Param, full: *const u64, full_len: usize) -> Part;
     fn pine_results_part(param: Param, full: *const u64, full_len: usize) -> Part;
     fn pine_empty_aggregate(param: Param, row: *mut u64, row_len: usize) -> Answer;
-    fn pine_accumulate(param: Param, agg: *mut u64, agg_len: usize, share: *const u64, share_len: usize) -> Answer;
     fn pine_merge(param: Param, agg: *mut u64, agg_len: usize, other: *const u64, other_len: usize) -> Answer;
     fn pine_subtract(param: Param, agg: *mut u64, agg_len: usize, share: *const u64, share_len: usize) -> Answer;
-    fn pine_unshard(
-        param: Param,
-        left: *const u64,
-        left_len: usize,
-        right: *const u64,
-        right_len: usize,
-        decoded: *mut f64,
-        decoded_len: usize,
-    ) -> Answer;
 }
 
 const ACCEPTED: Answer = Answer { number: 0, place: 0 };
@@ -198,8 +146,24 @@ fn param(d: usize, (c, e): (usize, usize), t: usize) -> Param {
     standard([NORM_BOUND, d as u64, FRAC_BITS, c as u64, e as u64, t as u64, t as u64])
 }
 
-fn title(name: &str, d: usize, of: &'static str, bytes: usize) -> Title {
-    Title::new("call", name, d, of, bytes)
+fn title<F: Field>(name: &str, d: usize, of: &'static str, bytes: usize) -> Title {
+    Title::new(F::KIND, &format!("{name}{}", F::SUFFIX), d, of, bytes)
+}
+
+/// The bytes of a row of so many elements.
+fn bytes<F: Field>(elements: usize) -> usize {
+    8 * F::WORDS * elements
+}
+
+/// A row of so many elements that is to be written.
+fn unwritten<F: Field>(elements: usize) -> Vec<u64> {
+    vec![1; F::WORDS * elements]
+}
+
+type Original<F> = Pine<F, XofTurboShake128, 16>;
+
+fn new<F: Field>(param: Param) -> Original<F> {
+    pine(param.0).unwrap()
 }
 
 /// As the calls of the archive answer.
@@ -256,10 +220,10 @@ struct Encoding {
     results: Vec<u64>,
 }
 
-fn encoding(s: &Report) -> Encoding {
+fn encoding<F: Field>(s: &Report) -> Encoding {
     let [_, d, _, _, _, t, _] = s.param.0.map(|x| x as usize);
     let report = Report { param: s.param, gradient: s.gradient.clone(), stream: s.stream.clone() };
-    Encoding { report, measurement: vec![1; d + checked_len(t)], results: vec![1; t] }
+    Encoding { report, measurement: unwritten::<F>(d + checked_len(t)), results: unwritten::<F>(t) }
 }
 
 fn encode_by_hand(w: &mut Encoding) -> Answer {
@@ -267,10 +231,10 @@ fn encode_by_hand(w: &mut Encoding) -> Answer {
     answer(&by_hand::encode(*param, gradient, stream, &mut w.measurement, &mut w.results))
 }
 
-fn encode_ours(w: &mut Encoding) -> Answer {
+fn encode_ours<F: Field>(w: &mut Encoding) -> Answer {
     let Report { param, gradient, stream } = &w.report;
     unsafe {
-        pine_encode_with_wr_joint_rand(
+        (F::CALLS.encode)(
             *param,
             gradient.as_ptr(),
             gradient.len(),
@@ -289,43 +253,46 @@ fn encoded(w: Encoding, answer: Answer) -> Vec<u64> {
     [w.measurement, w.results].concat()
 }
 
-fn encode_title(d: usize, t: usize) -> Title {
-    let bytes = 8 * d + d.div_ceil(4) * t + 8 * (d + checked_len(t)) + 8 * t;
-    Title { tests: Some(t), ..title("encode", d, "coordinate", bytes) }
+fn encode_title<F: Field>(d: usize, t: usize) -> Title {
+    let bytes = 8 * d + d.div_ceil(4) * t + bytes::<F>(d + checked_len(t)) + bytes::<F>(t);
+    Title { tests: Some(t), ..title::<F>("encode", d, "coordinate", bytes) }
 }
 
 /// With the second rule of the tests, or the switch on, which the original does not have.
 fn encode_with(d: usize, t: usize, note: &str, choices: [u8; 2]) -> Row {
     let ways = Ways {
         original: None,
-        ours: way(encoding, encode_ours, encoded),
-        by_hand: Some(way(encoding, encode_by_hand, encoded)),
+        ours: way(encoding::<Field64>, encode_ours::<Field64>, encoded),
+        by_hand: Some(way(encoding::<Field64>, encode_by_hand, encoded)),
     };
     let made = move |r: &mut Random| {
         let Param(inputs, alpha, _) = param(d, (1, 1), t);
         report(r, Param(inputs, alpha, choices))
     };
-    row(Title { note: note.into(), ..encode_title(d, t) }, made, ways)
+    row(Title { note: note.into(), ..encode_title::<Field64>(d, t) }, made, ways)
 }
 
-fn encode(d: usize, t: usize) -> Row {
-    let title = encode_title(d, t);
-    let ready = |s: &Report| {
-        give(&s.stream);
-        (new(s.param.0), s.gradient.clone())
-    };
-    let original = way(
-        ready,
-        |(pine, gradient)| pine.flp.encode_with_wr_joint_rand::<Given, 16>(gradient.iter().copied(), &seed()).unwrap(),
-        |_, (measurement, results)| words(&[measurement, results].concat()),
-    );
+/// Ready for the original's.
+fn original_encoding<F: Field>(s: &Report) -> (Original<F>, Vec<f64>) {
+    give(&s.stream);
+    (new(s.param), s.gradient.clone())
+}
+
+fn encode_original<F: Field>((pine, gradient): &mut (Original<F>, Vec<f64>)) -> (Vec<F>, Vec<F>) {
+    pine.flp.encode_with_wr_joint_rand::<Given, 16>(gradient.iter().copied(), &seed()).unwrap()
+}
+
+fn encode<F: Field>(d: usize, t: usize) -> Row {
+    let original = way(original_encoding::<F>, encode_original, |_, (measurement, results)| {
+        words(&[measurement, results].concat())
+    });
     row(
-        title,
+        encode_title::<F>(d, t),
         move |r| report(r, param(d, (1, 1), t)),
         Ways {
             original: Some(original),
-            ours: way(encoding, encode_ours, encoded),
-            by_hand: Some(way(encoding, encode_by_hand, encoded)),
+            ours: way(encoding::<F>, encode_ours::<F>, encoded),
+            by_hand: F::BY_HAND.then(|| way(encoding::<F>, encode_by_hand, encoded)),
         },
     )
 }
@@ -360,19 +327,19 @@ fn encode_seed_by_hand(w: &mut Encoding) -> Answer {
 
 fn encode_seed(d: usize, t: usize) -> Row {
     let original = way(
-        |s: &Report| (new(s.param.0), s.gradient.clone(), seed_of(&s.stream)),
+        |s: &Report| (new::<Field64>(s.param), s.gradient.clone(), seed_of(&s.stream)),
         |(pine, gradient, seed)| {
             pine.flp.encode_with_wr_joint_rand::<XofTurboShake128, 16>(gradient.iter().copied(), seed).unwrap()
         },
         |_, (measurement, results)| words(&[measurement, results].concat()),
     );
     row(
-        Title { name: "encode, seed".into(), ..encode_title(d, t) },
+        Title { name: "encode, seed".into(), ..encode_title::<Field64>(d, t) },
         move |r| seeded(r, param(d, (1, 1), t)),
         Ways {
             original: Some(original),
-            ours: way(encoding, encode_seed_ours, encoded),
-            by_hand: Some(way(encoding, encode_seed_by_hand, encoded)),
+            ours: way(encoding::<Field64>, encode_seed_ours, encoded),
+            by_hand: Some(way(encoding::<Field64>, encode_seed_by_hand, encoded)),
         },
     )
 }
@@ -386,16 +353,16 @@ struct Tests {
 }
 
 /// The tests of an encoded gradient, or of a share of one.
-fn fresh_tests(random: &mut Random, param: Param, share: bool) -> Tests {
+fn fresh_tests<F: Field>(random: &mut Random, param: Param, share: bool) -> Tests {
     let report = report(random, param);
     let d = report.gradient.len();
-    let gradient = if share { random.elements(d) } else { full_vector(&report)[..d].to_vec() };
-    Tests { param, gradient, stream: report.stream, results: vec![1; param.0[5] as usize] }
+    let gradient = if share { random_row::<F>(random, d) } else { full_vector::<F>(&report)[..F::WORDS * d].to_vec() };
+    Tests { param, gradient, stream: report.stream, results: unwritten::<F>(param.0[5] as usize) }
 }
 
-fn tests_ours(w: &mut Tests) -> Answer {
+fn tests_ours<F: Field>(w: &mut Tests) -> Answer {
     unsafe {
-        pine_run_wr_tests(
+        (F::CALLS.run_wr_tests)(
             w.param,
             w.gradient.as_ptr(),
             w.gradient.len(),
@@ -416,33 +383,33 @@ fn test_results(w: Tests, answer: Answer) -> Vec<u64> {
     w.results
 }
 
-fn tests_title(d: usize, t: usize) -> Title {
-    let bytes = 8 * d + d.div_ceil(4) * t + 8 * t;
-    Title { tests: Some(t), count: d * t, ..title("tests", d, "coordinate*test", bytes) }
+fn tests_title<F: Field>(d: usize, t: usize) -> Title {
+    let bytes = bytes::<F>(d) + d.div_ceil(4) * t + bytes::<F>(t);
+    Title { tests: Some(t), count: d * t, ..title::<F>("tests", d, "coordinate*test", bytes) }
 }
 
-fn tests(d: usize, t: usize, share: bool) -> Row {
+fn tests<F: Field>(d: usize, t: usize, share: bool) -> Row {
     let note = if share { "a share" } else { "" }.into();
-    let title = Title { note, ..tests_title(d, t) };
+    let title = Title { note, ..tests_title::<F>(d, t) };
     let ready = |s: &Tests| {
         give(&s.stream);
-        (new(s.param.0), fields(&s.gradient))
+        (new::<F>(s.param), fields(&s.gradient))
     };
     let original =
-        way(ready, |(pine, gradient)| run_wr_tests::<Given>(pine, gradient, &seed()), |_, results| words(&results));
+        way(ready, |(pine, gradient)| run_wr_tests::<F, Given>(pine, gradient, &seed()), |_, results| words(&results));
     row(
         title,
-        move |r| fresh_tests(r, param(d, (1, 1), t), share),
+        move |r| fresh_tests::<F>(r, param(d, (1, 1), t), share),
         Ways {
             original: Some(original),
-            ours: way(Tests::clone, tests_ours, test_results),
-            by_hand: Some(way(Tests::clone, tests_by_hand, test_results)),
+            ours: way(Tests::clone, tests_ours::<F>, test_results),
+            by_hand: F::BY_HAND.then(|| way(Tests::clone, tests_by_hand, test_results)),
         },
     )
 }
 
 fn seeded_tests(random: &mut Random, param: Param) -> Tests {
-    Tests { stream: random.bytes(16), ..fresh_tests(random, param, false) }
+    Tests { stream: random.bytes(16), ..fresh_tests::<Field64>(random, param, false) }
 }
 
 /// The stream is a seed.
@@ -467,12 +434,12 @@ fn tests_seed_by_hand(w: &mut Tests) -> Answer {
 
 fn tests_seed(d: usize, t: usize) -> Row {
     let original = way(
-        |s: &Tests| (new(s.param.0), fields(&s.gradient), seed_of(&s.stream)),
-        |(pine, gradient, seed)| run_wr_tests::<XofTurboShake128>(pine, gradient, seed),
+        |s: &Tests| (new::<Field64>(s.param), fields(&s.gradient), seed_of(&s.stream)),
+        |(pine, gradient, seed)| run_wr_tests::<Field64, XofTurboShake128>(pine, gradient, seed),
         |_, results| words(&results),
     );
     row(
-        Title { name: "tests, seed".into(), ..tests_title(d, t) },
+        Title { name: "tests, seed".into(), ..tests_title::<Field64>(d, t) },
         move |r| seeded_tests(r, param(d, (1, 1), t)),
         Ways {
             original: Some(original),
@@ -555,7 +522,7 @@ fn cut(d: usize, t: usize) -> Row {
     );
     let bytes = 8 * d + 16 + 80 + 2 * 8 * (d + checked_len(t)) + 32;
     row(
-        Title { tests: Some(t), ..title("cut", d, "coordinate", bytes) },
+        Title { tests: Some(t), ..title::<Field64>("cut", d, "coordinate", bytes) },
         move |r| cutting(r, param(d, (1, 1), t)),
         Ways {
             original: Some(original),
@@ -604,7 +571,7 @@ fn sample(d: usize, t: usize) -> Row {
     );
     let bytes = 8 * (len + 64) + 8 * len;
     row(
-        Title { tests: Some(t), count: len, ..title("sample", d, "element", bytes) },
+        Title { tests: Some(t), count: len, ..title::<Field64>("sample", d, "element", bytes) },
         move |r| sampling(r, param(d, (1, 1), t)),
         Ways {
             original: Some(original),
@@ -616,11 +583,16 @@ fn sample(d: usize, t: usize) -> Row {
 
 // The circuits
 
-/// A report's measurement and results.
-fn full_vector(report: &Report) -> Vec<u64> {
-    let mut rows = encoding(report);
-    let answer = encode_by_hand(&mut rows);
-    encoded(rows, answer)
+/// A report's measurement and results: by hand, which is faster, or as the original has them.
+fn full_vector<F: Field>(report: &Report) -> Vec<u64> {
+    if F::BY_HAND {
+        let mut rows = encoding::<F>(report);
+        let answer = encode_by_hand(&mut rows);
+        encoded(rows, answer)
+    } else {
+        let (measurement, results) = encode_original::<F>(&mut original_encoding(report));
+        words(&[measurement, results].concat())
+    }
 }
 
 #[derive(Clone)]
@@ -632,13 +604,13 @@ struct Full {
 }
 
 /// A report's full vector with num_shares 1, or a share of one with num_shares 2.
-fn fresh_full(random: &mut Random, param: Param, num_shares: u64) -> Full {
+fn fresh_full<F: Field>(random: &mut Random, param: Param, num_shares: u64) -> Full {
     let report = report(random, param);
-    let mut full = full_vector(&report);
+    let mut full = full_vector::<F>(&report);
     if num_shares > 1 {
-        full = random.elements(full.len());
+        full = random_row::<F>(random, full.len() / F::WORDS);
     }
-    Full { param, num_shares, full, joint_rand: random.elements(3) }
+    Full { param, num_shares, full, joint_rand: random_row::<F>(random, 3) }
 }
 
 fn full_len(d: usize, t: usize) -> usize {
@@ -646,17 +618,17 @@ fn full_len(d: usize, t: usize) -> usize {
 }
 
 #[derive(Debug)]
-struct Counted {
-    inner: Box<dyn Gadget<Field64>>,
+struct Counted<F: Field> {
+    inner: Box<dyn Gadget<F>>,
     calls: Rc<Cell<u64>>,
 }
 
-impl Gadget<Field64> for Counted {
-    fn call(&mut self, inp: &[Field64]) -> Result<Field64, FlpError> {
+impl<F: Field> Gadget<F> for Counted<F> {
+    fn call(&mut self, inp: &[F]) -> Result<F, FlpError> {
         self.calls.set(self.calls.get() + 1);
         self.inner.call(inp)
     }
-    fn call_poly(&mut self, outp: &mut [Field64], inp: &[Vec<Field64>]) -> Result<(), FlpError> {
+    fn call_poly(&mut self, outp: &mut [F], inp: &[Vec<F>]) -> Result<(), FlpError> {
         self.inner.call_poly(outp, inp)
     }
     fn arity(&self) -> usize {
@@ -674,55 +646,59 @@ impl Gadget<Field64> for Counted {
 }
 
 /// What the original's circuits read.
-struct Original {
-    pine: Pine64,
-    gadgets: Vec<Box<dyn Gadget<Field64>>>,
-    full: Vec<Field64>,
-    joint_rand: Vec<Field64>,
+struct OriginalFull<F: Field> {
+    pine: Original<F>,
+    gadgets: Vec<Box<dyn Gadget<F>>>,
+    full: Vec<F>,
+    joint_rand: Vec<F>,
     num_shares: usize,
 }
 
-impl Original {
-    fn valid<T: Type<Field = Field64>>(&mut self, circuit: fn(&Pine64) -> &T) -> Field64 {
-        let Original { pine, gadgets, full, joint_rand, num_shares } = self;
+impl<F: Field> OriginalFull<F> {
+    fn valid<T: Type<Field = F>>(&mut self, circuit: fn(&Original<F>) -> &T) -> F {
+        let OriginalFull { pine, gadgets, full, joint_rand, num_shares } = self;
         circuit(pine).valid(gadgets, full, joint_rand, *num_shares).unwrap()
     }
 
     /// The value, and the gadget calls as another run counts them, which is not timed.
-    fn counted<T: Type<Field = Field64>>(mut self, circuit: fn(&Pine64) -> &T, value: Field64) -> Vec<u64> {
+    fn counted<T: Type<Field = F>>(mut self, circuit: fn(&Original<F>) -> &T, value: F) -> Vec<u64> {
         let calls = Rc::new(Cell::new(0));
-        let counted = |inner| Box::new(Counted { inner, calls: calls.clone() }) as Box<dyn Gadget<Field64>>;
+        let counted = |inner| Box::new(Counted { inner, calls: calls.clone() }) as Box<dyn Gadget<F>>;
         self.gadgets = circuit(&self.pine).gadget().into_iter().map(counted).collect();
         assert_eq!(self.valid(circuit), value);
-        assert!(self.num_shares > 1 || u64::from(value) == 0);
-        vec![u64::from(value), calls.get()]
+        assert!(self.num_shares > 1 || value == F::zero());
+        circuit_numbers::<F>(value.words(), calls.get())
     }
 }
 
-fn original_circuit<T: Type<Field = Field64> + 'static>(circuit: fn(&Pine64) -> &T) -> Way<Full> {
+fn circuit_numbers<F: Field>(value: F::Words, gadget_calls: u64) -> Vec<u64> {
+    [value.as_ref(), &[gadget_calls]].concat()
+}
+
+fn original_circuit<F: Field, T: Type<Field = F> + 'static>(circuit: fn(&Original<F>) -> &T) -> Way<Full> {
     let ready = move |s: &Full| {
-        let pine = new(s.param.0);
+        let pine = new(s.param);
         let gadgets = circuit(&pine).gadget();
-        let joint_rand = fields(&s.joint_rand[..circuit(&pine).joint_rand_len()]);
-        Original { pine, gadgets, full: fields(&s.full), joint_rand, num_shares: s.num_shares as usize }
+        let joint_rand = fields(&s.joint_rand[..F::WORDS * circuit(&pine).joint_rand_len()]);
+        OriginalFull { pine, gadgets, full: fields(&s.full), joint_rand, num_shares: s.num_shares as usize }
     };
     way(ready, move |w| w.valid(circuit), move |w, value| w.counted(circuit, value))
 }
 
-fn circuit_ways<T: Type<Field = Field64> + 'static>(
-    circuit: fn(&Pine64) -> &T,
-    ours: fn(&mut Full) -> Circuit,
+fn circuit_ways<F: Field, T: Type<Field = F> + 'static>(
+    circuit: fn(&Original<F>) -> &T,
+    ours: fn(&mut Full) -> Circuit<F::Words>,
     by_hand: fn(&mut Full) -> Outcome<by_hand::Circuit>,
 ) -> Ways<Full> {
-    let our_numbers = |_, c: Circuit| {
+    let our_numbers = |_, c: Circuit<F::Words>| {
         accepted(c.answer);
-        vec![c.value, c.gadget_calls]
+        circuit_numbers::<F>(c.value, c.gadget_calls)
     };
     let numbers = |_, outcome: Outcome<by_hand::Circuit>| outcome.map(|(value, calls)| vec![value, calls]).unwrap();
     Ways {
         original: Some(original_circuit(circuit)),
         ours: way(Full::clone, ours, our_numbers),
-        by_hand: Some(way(Full::clone, by_hand, numbers)),
+        by_hand: F::BY_HAND.then(|| way(Full::clone, by_hand, numbers)),
     }
 }
 
@@ -730,33 +706,33 @@ fn note(chunk_len: usize, num_shares: u64) -> String {
     format!("chunks of {chunk_len}{}", if num_shares > 1 { ", a share" } else { "" })
 }
 
-fn valid(d: usize, t: usize, (c, e): (usize, usize), num_shares: u64) -> Row {
+fn valid<F: Field>(d: usize, t: usize, (c, e): (usize, usize), num_shares: u64) -> Row {
     let title = Title {
         tests: Some(t),
         note: note(c, num_shares),
         count: checked_len(t),
-        ..title("valid", d, "checked element", 8 * full_len(d, t))
+        ..title::<F>("valid", d, "checked element", bytes::<F>(full_len(d, t)))
     };
-    let ways = circuit_ways(
+    let ways = circuit_ways::<F, _>(
         |pine| &pine.flp,
         |w| unsafe {
             let (full, joint_rand) = (&w.full, &w.joint_rand);
-            pine_valid(w.param, w.num_shares, full.as_ptr(), full.len(), joint_rand.as_ptr(), joint_rand.len())
+            (F::CALLS.valid)(w.param, w.num_shares, full.as_ptr(), full.len(), joint_rand.as_ptr(), joint_rand.len())
         },
         |w| by_hand::valid(w.param, w.num_shares, &w.full, &w.joint_rand),
     );
-    row(title, move |r| fresh_full(r, param(d, (c, e), t), num_shares), ways)
+    row(title, move |r| fresh_full::<F>(r, param(d, (c, e), t), num_shares), ways)
 }
 
-fn valid_sq_norm_equal(d: usize, (c, e): (usize, usize), num_shares: u64) -> Row {
-    let bytes = 8 * full_len(d, USUAL_TESTS);
-    let title = Title { note: note(e, num_shares), ..title("valid_sq_norm_equal", d, "coordinate", bytes) };
-    let ways = circuit_ways(
+fn valid_sq_norm_equal<F: Field>(d: usize, (c, e): (usize, usize), num_shares: u64) -> Row {
+    let bytes = bytes::<F>(full_len(d, USUAL_TESTS));
+    let title = Title { note: note(e, num_shares), ..title::<F>("valid_sq_norm_equal", d, "coordinate", bytes) };
+    let ways = circuit_ways::<F, _>(
         |pine| &pine.flp_sq_norm_equal,
-        |w| unsafe { pine_valid_sq_norm_equal(w.param, w.num_shares, w.full.as_ptr(), w.full.len()) },
+        |w| unsafe { (F::CALLS.valid_sq_norm_equal)(w.param, w.num_shares, w.full.as_ptr(), w.full.len()) },
         |w| by_hand::valid_sq_norm_equal(w.param, w.num_shares, &w.full),
     );
-    row(title, move |r| fresh_full(r, param(d, (c, e), USUAL_TESTS), num_shares), ways)
+    row(title, move |r| fresh_full::<F>(r, param(d, (c, e), USUAL_TESTS), num_shares), ways)
 }
 
 type PartCall = unsafe extern "C" fn(Param, *const u64, usize) -> Part;
@@ -764,7 +740,7 @@ type PartCall = unsafe extern "C" fn(Param, *const u64, usize) -> Part;
 /// The first, second or third part. The original's circuits split their vector without a test.
 fn part(name: &str, d: usize, call: PartCall, which: usize) -> Row {
     let elements = full_len(d, USUAL_TESTS);
-    let title = Title { count: elements, ..title(name, d, "element of the full vector", 8 * elements) };
+    let title = Title { count: elements, ..title::<Field64>(name, d, "element of the full vector", 8 * elements) };
     let ours = way(
         Full::clone,
         move |w: &mut Full| unsafe { call(w.param, w.full.as_ptr(), w.full.len()) },
@@ -778,7 +754,7 @@ fn part(name: &str, d: usize, call: PartCall, which: usize) -> Row {
         move |w: &mut Full| by_hand::part(w.param, &w.full, which),
         |_, part| part.unwrap().map(|x| x as u64).to_vec(),
     );
-    let fresh = move |r: &mut Random| fresh_full(r, param(d, (1, 1), USUAL_TESTS), 2);
+    let fresh = move |r: &mut Random| fresh_full::<Field64>(r, param(d, (1, 1), USUAL_TESTS), 2);
     row(title, fresh, Ways { original: None, ours, by_hand: Some(by_hand) })
 }
 
@@ -791,11 +767,19 @@ struct Two {
     right: Vec<u64>,
 }
 
-fn two(random: &mut Random, d: usize) -> Two {
-    Two { param: param(d, (1, 1), USUAL_TESTS), left: random.elements(d), right: random.elements(d) }
+fn two<F: Field>(random: &mut Random, d: usize) -> Two {
+    let [left, right] = [(); 2].map(|()| random_row::<F>(random, d));
+    Two { param: param(d, (1, 1), USUAL_TESTS), left, right }
 }
 
-fn original_two(s: &Two) -> [PineVec<Field64>; 2] {
+/// Two whose sums can be decoded.
+fn two_of_sums<F: Field>(random: &mut Random, d: usize) -> Two {
+    let left = random_row::<F>(random, d);
+    let right: Vec<F> = fields(&left).into_iter().map(|x: F| F::random_sum(random) - x).collect();
+    Two { param: param(d, (1, 1), USUAL_TESTS), left, right: words(&right) }
+}
+
+fn original_two<F: Field>(s: &Two) -> [PineVec<F>; 2] {
     [&s.left, &s.right].map(|row| pine_vec(fields(row)))
 }
 
@@ -806,7 +790,7 @@ fn left(w: Two, answer: Answer) -> Vec<u64> {
 
 fn empty_aggregate(d: usize) -> Row {
     let original = way(
-        |s: &Two| new(s.param.0),
+        |s: &Two| new::<Field64>(s.param),
         |pine| Aggregator::<16, 16>::aggregate(pine, &(), []).unwrap(),
         |_, row| words(&elements(row)),
     );
@@ -816,32 +800,38 @@ fn empty_aggregate(d: usize) -> Row {
         left,
     );
     let by_hand = way(Two::clone, |w: &mut Two| answer(&by_hand::empty_aggregate(w.param, &mut w.left)), left);
-    let title = title("empty_aggregate", d, "element", 8 * d);
-    row(title, move |r| two(r, d), Ways { original: Some(original), ours, by_hand: Some(by_hand) })
+    let title = title::<Field64>("empty_aggregate", d, "element", 8 * d);
+    row(title, move |r| two::<Field64>(r, d), Ways { original: Some(original), ours, by_hand: Some(by_hand) })
 }
 
-type Adding = unsafe extern "C" fn(Param, *mut u64, usize, *const u64, usize) -> Answer;
 type AddingByHand = fn(Param, &mut [u64], &[u64]) -> Outcome<()>;
-type OriginalAdding = fn(&mut PineVec<Field64>, &PineVec<Field64>);
+type OriginalAdding<F> = fn(&mut PineVec<F>, &PineVec<F>);
 
-fn original_adding(call: OriginalAdding) -> Way<Two> {
-    way(
-        original_two,
-        move |[agg, share]: &mut [PineVec<Field64>; 2]| call(agg, share),
-        |[agg, _], ()| words(&elements(agg)),
-    )
+fn original_adding<F: Field>(call: OriginalAdding<F>) -> Way<Two> {
+    way(original_two, move |[agg, share]: &mut [PineVec<F>; 2]| call(agg, share), |[agg, _], ()| words(&elements(agg)))
 }
 
-fn adding(name: &str, d: usize, original: Option<OriginalAdding>, call: Adding, by_hand: AddingByHand) -> Row {
+fn adding<F: Field>(
+    name: &str,
+    d: usize,
+    original: Option<OriginalAdding<F>>,
+    call: Adding,
+    by_hand: AddingByHand,
+) -> Row {
     let ours = way(
         Two::clone,
         move |w: &mut Two| unsafe { call(w.param, w.left.as_mut_ptr(), w.left.len(), w.right.as_ptr(), w.right.len()) },
         left,
     );
     let by_hand = way(Two::clone, move |w: &mut Two| answer(&by_hand(w.param, &mut w.left, &w.right)), left);
-    let title = title(name, d, "element", 16 * d);
+    let title = title::<F>(name, d, "element", bytes::<F>(2 * d));
     let original = original.map(original_adding);
-    row(title, move |r| two(r, d), Ways { original, ours, by_hand: Some(by_hand) })
+    row(title, move |r| two::<F>(r, d), Ways { original, ours, by_hand: F::BY_HAND.then_some(by_hand) })
+}
+
+fn accumulate<F: Field>(d: usize) -> Row {
+    let original: OriginalAdding<F> = |agg, share| agg.accumulate(share).unwrap();
+    adding("accumulate", d, Some(original), F::CALLS.accumulate, by_hand::accumulate)
 }
 
 fn bits(row: Vec<f64>, answer: Answer) -> Vec<u64> {
@@ -849,18 +839,18 @@ fn bits(row: Vec<f64>, answer: Answer) -> Vec<u64> {
     row.iter().map(|x| x.to_bits()).collect()
 }
 
-fn unshard(d: usize) -> Row {
+fn unshard<F: Field>(d: usize) -> Row {
     let original = way(
-        |s: &Two| (new(s.param.0), original_two(s).into()),
-        |(pine, rows): &mut (Pine64, Vec<PineVec<Field64>>)| pine.unshard(&(), std::mem::take(rows), 1).unwrap(),
+        |s: &Two| (new(s.param), original_two(s).into()),
+        |(pine, rows): &mut (Original<F>, Vec<PineVec<F>>)| pine.unshard(&(), std::mem::take(rows), 1).unwrap(),
         |_, decoded| bits(decoded, ACCEPTED),
     );
-    let ready = |s: &Two| (s.clone(), vec![1.0; s.left.len()]);
+    let ready = |s: &Two| (s.clone(), vec![1.0; s.left.len() / F::WORDS]);
     let ours = way(
         ready,
         |(w, decoded)| unsafe {
             let (left, right) = (&w.left, &w.right);
-            pine_unshard(
+            (F::CALLS.unshard)(
                 w.param,
                 left.as_ptr(),
                 left.len(),
@@ -877,14 +867,15 @@ fn unshard(d: usize) -> Row {
         |(w, decoded)| answer(&by_hand::unshard(w.param, &w.left, &w.right, decoded)),
         |(_, decoded), answer| bits(decoded, answer),
     );
-    let title = title("unshard", d, "element", 24 * d);
-    row(title, move |r| two(r, d), Ways { original: Some(original), ours, by_hand: Some(by_hand) })
+    let title = title::<F>("unshard", d, "element", bytes::<F>(2 * d) + 8 * d);
+    let ways = Ways { original: Some(original), ours, by_hand: F::BY_HAND.then_some(by_hand) };
+    row(title, move |r| two_of_sums::<F>(r, d), ways)
 }
 
 // One number, and the record
 
 fn single(name: &str, bytes: usize) -> Title {
-    Title { count: 1, ..title(name, 1, "call", bytes) }
+    Title { count: 1, ..title::<Field64>(name, 1, "call", bytes) }
 }
 
 fn f64_to_field() -> Row {
@@ -938,39 +929,49 @@ fn derive() -> Row {
     row(single("derive", size_of::<Param>() + size_of::<Derived>()), any_param, ways)
 }
 
+fn of_a_share<F: Field>(d: usize) -> [Row; 3] {
+    let at = chunks(d, USUAL_TESTS)[1];
+    [tests::<F>(d, USUAL_TESTS, true), valid::<F>(d, USUAL_TESTS, at, 2), valid_sq_norm_equal::<F>(d, at, 2)]
+}
+
 fn of_dimension(d: usize) -> Vec<Row> {
     let mut rows = Vec::new();
     for t in TESTS {
-        rows.push(encode(d, t));
-        rows.push(tests(d, t, false));
-        rows.extend(chunks(d, t).map(|at| valid(d, t, at, 1)));
+        rows.push(encode::<Field64>(d, t));
+        rows.push(tests::<Field64>(d, t, false));
+        rows.extend(chunks(d, t).map(|at| valid::<Field64>(d, t, at, 1)));
         if USUAL_DIMENSIONS.contains(&d) {
             rows.push(encode_with(d, t, "enough tests", [1, 0]));
             rows.push(encode_with(d, t, "true norm", [0, 1]));
         }
     }
-    rows.extend(chunks(d, USUAL_TESTS).map(|at| valid_sq_norm_equal(d, at, 1)));
+    rows.extend(chunks(d, USUAL_TESTS).map(|at| valid_sq_norm_equal::<Field64>(d, at, 1)));
     if USUAL_DIMENSIONS.contains(&d) {
-        let at = chunks(d, USUAL_TESTS)[1];
-        rows.push(tests(d, USUAL_TESTS, true));
-        rows.push(valid(d, USUAL_TESTS, at, 2));
-        rows.push(valid_sq_norm_equal(d, at, 2));
+        rows.extend(of_a_share::<Field64>(d));
     }
     rows.push(part("gradient_part", d, pine_gradient_part, 0));
     rows.push(part("checked_part", d, pine_checked_part, 1));
     rows.push(part("results_part", d, pine_results_part, 2));
     rows.push(empty_aggregate(d));
-    let accumulate: OriginalAdding = |agg, share| agg.accumulate(share).unwrap();
-    let merge: OriginalAdding = |agg, other| agg.merge(other).unwrap();
-    rows.push(adding("accumulate", d, Some(accumulate), pine_accumulate, by_hand::accumulate));
+    let merge: OriginalAdding<Field64> = |agg, other| agg.merge(other).unwrap();
+    rows.push(accumulate::<Field64>(d));
     rows.push(adding("merge", d, Some(merge), pine_merge, by_hand::accumulate));
-    rows.push(adding("subtract", d, None, pine_subtract, by_hand::subtract));
-    rows.push(unshard(d));
+    rows.push(adding::<Field64>("subtract", d, None, pine_subtract, by_hand::subtract));
+    rows.push(unshard::<Field64>(d));
+    rows
+}
+
+fn over_field128(d: usize) -> Vec<Row> {
+    let mut rows = vec![encode::<Field128>(d, USUAL_TESTS), tests::<Field128>(d, USUAL_TESTS, false)];
+    rows.extend(chunks(d, USUAL_TESTS).map(|at| valid::<Field128>(d, USUAL_TESTS, at, 1)));
+    rows.extend(chunks(d, USUAL_TESTS).map(|at| valid_sq_norm_equal::<Field128>(d, at, 1)));
+    rows.extend(of_a_share::<Field128>(d));
+    rows.extend([accumulate::<Field128>(d), unshard::<Field128>(d)]);
     rows
 }
 
 fn small(d: usize) -> Vec<Row> {
-    SMALL_TESTS.into_iter().flat_map(|t| [encode(d, t), tests(d, t, false)]).collect()
+    SMALL_TESTS.into_iter().flat_map(|t| [encode::<Field64>(d, t), tests::<Field64>(d, t, false)]).collect()
 }
 
 fn of_seed(d: usize) -> Vec<Row> {
@@ -985,5 +986,6 @@ pub fn table() -> Vec<Row> {
     rows.extend(DIMENSIONS.into_iter().flat_map(of_dimension));
     rows.extend(SEED_DIMENSIONS.into_iter().flat_map(of_seed));
     rows.extend([f64_to_field(), field_to_f64(), derive()]);
+    rows.extend(USUAL_DIMENSIONS.into_iter().flat_map(over_field128));
     rows
 }

@@ -125,6 +125,11 @@ def headlines(rows):
     return table((NAME, DIMENSION, OF, *TIMES), chosen)
 
 
+def over_field128(rows):
+    """None of them is written by hand."""
+    return table((NAME, DIMENSION, OF, ORIGINAL, OURS, TO_ORIGINAL, TO_READING), rows)
+
+
 def of_calls(names, rows):
     mine = sorted((r for r in rows if r.name in names), key=lambda r: (r.length, r.tests or 0))
     over_rows = mine[0].of != "call"
@@ -196,8 +201,8 @@ def causes(way, behind):
 
 
 def document(rows, processor, picture):
-    kinds = {kind: [r for r in rows if r.kind == kind] for kind in ("call", "file", "leaf", "memory")}
-    calls, files, leaves = kinds["call"], kinds["file"], kinds["leaf"]
+    kinds = {kind: [r for r in rows if r.kind == kind] for kind in ("call", "call128", "file", "leaf", "memory")}
+    calls, calls128, files, leaves = kinds["call"], kinds["call128"], kinds["file"], kinds["leaf"]
     parts = [
         (HERE / "head.md").read_text().strip(),
         f"Processor: {processor}",
@@ -206,6 +211,8 @@ def document(rows, processor, picture):
         headlines(calls),
         "## Each call over all sizes",
         *(of_calls(names, calls) for names in TABLES),
+        "## Over Field128",
+        over_field128(calls128),
         "## The day's file",
         of_files(files),
         "## Leaf functions, in loops over rows",
@@ -215,7 +222,7 @@ def document(rows, processor, picture):
         "## Slower than by hand",
         slower(calls + files + leaves, "by hand", lambda r: r.by_hand, lambda r: r.to_by_hand),
         "## Slower than the original",
-        slower(calls + leaves, "the original", lambda r: r.original, lambda r: r.to_original),
+        slower(calls + calls128 + leaves, "the original", lambda r: r.original, lambda r: r.to_original),
     ]
     return "\n\n".join(parts) + "\n"
 

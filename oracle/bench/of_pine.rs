@@ -6,24 +6,6 @@ pub mod opened {
         vdaf::xof::{Seed, Xof},
     };
 
-    /// For n, d, f, c, e, T and K.
-    pub fn new(inputs: [u64; 7]) -> Pine64 {
-        let [norm_bound, dimension, frac_bits, chunk_len, chunk_len_sq_norm_equal, num_wr_tests, num_wr_successes] =
-            inputs.map(|x| usize::try_from(x).unwrap());
-        let param = PineParam {
-            norm_bound: norm_bound as u64,
-            dimension,
-            frac_bits,
-            chunk_len,
-            chunk_len_sq_norm_equal,
-            num_proofs: 2,
-            num_proofs_sq_norm_equal: 1,
-            num_wr_tests,
-            num_wr_successes,
-        };
-        Pine::new(&param, 0xffff_ffff).unwrap()
-    }
-
     fn lengths(circuit: &impl Type) -> [u64; 6] {
         let lengths = [
             circuit.input_len(),
@@ -38,7 +20,7 @@ pub mod opened {
 
     /// The record, the stream's length and the lengths of both circuits, in the order of include/pine.h.
     pub fn derived(inputs: [u64; 7]) -> [u64; 29] {
-        let pine = new(inputs);
+        let pine: Pine64 = crate::fields::pine(inputs).unwrap();
         let (flp, equal) = (&pine.flp, &pine.flp_sq_norm_equal);
         let record = [
             flp.dimension as u64,
@@ -66,15 +48,19 @@ pub mod opened {
         numbers
     }
 
-    pub fn run_wr_tests<X: Xof<16>>(pine: &Pine64, gradient: &[Field64], seed: &Seed<16>) -> Vec<Field64> {
+    pub fn run_wr_tests<F: FftFriendlyFieldElement, X: Xof<16>>(
+        pine: &Pine<F, XofTurboShake128, 16>,
+        gradient: &[F],
+        seed: &Seed<16>,
+    ) -> Vec<F> {
         pine.flp.run_wr_tests::<X, 16>(gradient, seed)
     }
 
-    pub fn pine_vec(row: Vec<Field64>) -> PineVec<Field64> {
+    pub fn pine_vec<F>(row: Vec<F>) -> PineVec<F> {
         PineVec(row)
     }
 
-    pub fn elements(row: PineVec<Field64>) -> Vec<Field64> {
+    pub fn elements<F>(row: PineVec<F>) -> Vec<F> {
         row.0
     }
 

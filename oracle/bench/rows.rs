@@ -1,19 +1,19 @@
 //! Measures rows: each says how to make fresh inputs, and the ways to work on them. A repetition makes inputs, takes
 //! the ways in turn, each on copies of its own that were just written, compares what they give, and reads as many
 //! bytes as their rows have.
-//! `calls` has the rows of the calls, `files` those on a day's file, `leaves` those of the leaf functions, `memory`
+//! `calls` has the rows of the calls, over the fields of `field`, `files` those on a day's file, `leaves` those of the leaf functions, `memory`
 //! reading and copying.
 //! A line of the output is a row, its columns parted by tabs; document.py reads them.
 
 mod by_hand;
 mod by_hand_calls;
 mod calls;
+mod field;
 mod files;
 mod leaves;
 mod memory;
 mod stream;
 
-use prio_draft09::field::Field64;
 use std::{
     hint::black_box,
     time::{Duration, Instant, SystemTime},
@@ -61,14 +61,6 @@ impl Random {
         let largest = 0.9 / (n as f64).sqrt();
         (0..n).map(|_| (self.unit() * 2.0 - 1.0) * largest).collect()
     }
-}
-
-fn fields(row: &[u64]) -> Vec<Field64> {
-    row.iter().map(|x| Field64::from(*x)).collect()
-}
-
-fn words(row: &[Field64]) -> Vec<u64> {
-    row.iter().map(|x| u64::from(*x)).collect()
 }
 
 #[repr(C)]

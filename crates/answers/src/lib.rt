@@ -31,17 +31,27 @@ pub fn answer_hex(out: &mut [u8], at: usize, answer: Answer, n: u64, width: usiz
     print::text(out, to, b"\n")
 }
 
-pub fn ok_elements(out: &mut [u8], at: usize, row: &[u64]) -> usize {
-    let to = print::text(out, at, b"ok ");
-    let to = print::elements(out, to, row);
+// The refusal, or `ok` and one hexadecimal number of two words.
+pub fn answer_wide_hex(out: &mut [u8], at: usize, answer: Answer, low: u64, high: u64) -> usize {
+    if answer.number != 0 {
+        return refused(out, at, answer);
+    }
+    let to = print::wide_hex(out, at, b"ok ", low, high);
     print::text(out, to, b"\n")
 }
 
-pub fn ok_two_rows(out: &mut [u8], at: usize, first: &[u64], second: &[u64]) -> usize {
+// Of elements of one word, or of two.
+pub fn ok_elements(out: &mut [u8], at: usize, row: &[u64], wide: bool) -> usize {
     let to = print::text(out, at, b"ok ");
-    let to = print::elements(out, to, first);
+    let to = print::elements_of(out, to, row, wide);
+    print::text(out, to, b"\n")
+}
+
+pub fn ok_two_rows(out: &mut [u8], at: usize, first: &[u64], second: &[u64], wide: bool) -> usize {
+    let to = print::text(out, at, b"ok ");
+    let to = print::elements_of(out, to, first, wide);
     let to = print::text(out, to, b" ");
-    let to = print::elements(out, to, second);
+    let to = print::elements_of(out, to, second, wide);
     print::text(out, to, b"\n")
 }
 

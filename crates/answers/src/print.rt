@@ -60,6 +60,35 @@ pub fn elements(out: &mut [u8], at: usize, row: &[u64]) -> usize {
     to
 }
 
+// A name, with the spaces about it, and a hexadecimal number of two words.
+pub fn wide_hex(out: &mut [u8], at: usize, name: &[u8], low: u64, high: u64) -> usize {
+    if high == 0 {
+        return hex(out, at, name, low, 1);
+    }
+    let to = hex(out, at, name, high, 1);
+    hex(out, to, b"", low, 16)
+}
+
+// A count, and each number of two words in hexadecimal, the low word being the first.
+fn pairs(out: &mut [u8], at: usize, row: &[u64]) -> usize {
+    let many = row.len() / 2;
+    let mut to = decimal(out, at, b"", many as u64);
+    let mut i = 0;
+    while i < many {
+        to = wide_hex(out, to, b" ", row[i * 2], row[i * 2 + 1]);
+        i += 1;
+    }
+    to
+}
+
+// A row of elements of one word, or of two.
+pub fn elements_of(out: &mut [u8], at: usize, row: &[u64], wide: bool) -> usize {
+    if wide {
+        return pairs(out, at, row);
+    }
+    elements(out, at, row)
+}
+
 // A count, and the bit pattern of each double.
 pub fn doubles(out: &mut [u8], at: usize, row: &[f64]) -> usize {
     let mut to = decimal(out, at, b"", row.len() as u64);

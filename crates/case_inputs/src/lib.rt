@@ -1,6 +1,7 @@
 // Of `replay`: the inputs of a case, the lengths of the rows that its call is lent, and rows of bytes.
 use lines::words;
 use lines::words::Cursor;
+use pine::Derived;
 use pine::PineParam;
 use pine::WrTestRule;
 
@@ -114,20 +115,38 @@ pub fn read_param(line: &[u8], c: Cursor) -> ReadParam {
     ReadParam { param, next }
 }
 
-// Derived lengths: 0 where the inputs are refused.
+// Over Field128 if wide, else over Field64.
+pub fn derive(param: PineParam, wide: bool) -> Derived {
+    if wide {
+        return params128::derive(param);
+    }
+    params::derive(param)
+}
+
+// The words of so many elements: two each if wide, else one.
+fn words_of(len: u64, wide: bool) -> u64 {
+    if wide {
+        return std::num::wrapping_add_u64(len, len);
+    }
+    len
+}
+
+// The dimension, and derived lengths of rows in words: 0 where the inputs are refused.
 pub struct Lens {
     pub dimension: u64,
+    pub aggregate: u64,
     pub measurement: u64,
     pub results: u64,
 }
 
-pub fn lens_of(param: PineParam) -> Lens {
-    let derived = params::derive(param);
+pub fn lens_of(param: PineParam, wide: bool) -> Lens {
+    let derived = derive(param, wide);
     let pine = derived.pine;
     Lens {
         dimension: pine.dimension,
-        measurement: pine.encoded_input_len,
-        results: pine.num_wr_tests,
+        aggregate: words_of(pine.dimension, wide),
+        measurement: words_of(pine.encoded_input_len, wide),
+        results: words_of(pine.num_wr_tests, wide),
     }
 }
 

@@ -73,7 +73,7 @@ fn read_of(
     contents: &mut [u8],
     bodies: &mut [u64],
 ) -> usize {
-    let lens = lens_of(param);
+    let lens = lens_of(param, false);
     let derived = read_lens(lens.dimension, file);
     let lent = lent_rows(line, c, derived, contents.len(), bodies.len());
     if !lent.ok {
@@ -154,7 +154,7 @@ fn write_in(
     let count = words::decimal(line, read.next);
     let contents_row = words::bytes(line, count.next, contents);
     let bodies_row = words::elements(line, contents_row.next, bodies);
-    let lens = lens_of(read.param);
+    let lens = lens_of(read.param, false);
     let derived = file_len(lens.dimension, count.value);
     let lent = lent_row(line, bodies_row.next, derived, file.len());
     if !lent.ok {
@@ -280,7 +280,7 @@ fn add_of(
 ) -> usize {
     let old_row = words::bytes(line, c, old);
     let share_row = words::elements(line, old_row.next, share);
-    let lens = lens_of(param);
+    let lens = lens_of(param, false);
     let n = old_row.len;
     let derived = second_len(lens.dimension, n as u64);
     let lent = lent_row(line, share_row.next, derived, second.len());

@@ -2,4 +2,5 @@
 // double, and rows that are lent.
 pub mod patterns;
 pub mod row;
+pub mod wide;
 pub mod words;

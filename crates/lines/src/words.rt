@@ -43,7 +43,7 @@ impl Cursor {
     }
 
     // The cursor past a word that ends at `at` and, if ok, has the form asked for.
-    fn past(self, at: usize, ok: bool) -> Cursor {
+    pub fn past(self, at: usize, ok: bool) -> Cursor {
         Cursor {
             at,
             ok: self.ok & ok,
@@ -97,7 +97,7 @@ pub fn next_word(s: &[u8], c: Cursor) -> Word
 }
 
 // The value of a hexadecimal digit, or 16.
-fn digit(b: u8) -> u64
+pub fn digit(b: u8) -> u64
     ensures { λ r. ⌜ r ≤ 16 ⌝ }
 {
     match b {
@@ -137,7 +137,7 @@ fn parse(w: &[u8], base: u64) -> Digits
 }
 
 // A word without the 0x that may stand before it.
-fn after_0x(w: &[u8]) -> &[u8] {
+pub fn after_0x(w: &[u8]) -> &[u8] {
     if 2 <= w.len() {
         if w[0] == b'0' {
             if w[1] == b'x' {
@@ -173,7 +173,7 @@ pub fn hex(s: &[u8], c: Cursor) -> Number {
 }
 
 // The count before a row, which may not be above most.
-fn count(s: &[u8], c: Cursor, most: usize) -> Row
+pub fn count(s: &[u8], c: Cursor, most: usize) -> Row
     ensures { λ r. ⌜ r .len ≤ most ⌝ }
 {
     let n = decimal(s, c);

@@ -1,14 +1,18 @@
-// The commands: what each reads of its line, and what it answers.
+// The commands: what each reads of its line, and what it answers. Those over Field128 end in 128.
 use crate::cuts;
 use crate::loads;
 use answers::answer_hex;
+use answers::answer_wide_hex;
 use answers::bad;
 use answers::print;
 use answers::refused;
+use case_inputs::derive;
 use case_inputs::read_later;
 use case_inputs::read_param;
+use field128::Element;
 use lines::patterns::double_of;
 use lines::patterns::pattern_of;
+use lines::wide;
 use lines::words;
 use lines::words::Cursor;
 use pine::record::Lengths;
@@ -42,12 +46,12 @@ fn put_lengths(out: &mut [u8], at: usize, name: &[u8], calls: u64, lengths: Leng
     print::decimal(out, to, b" query_rand_len ", lengths.query_rand_len)
 }
 
-fn params(line: &[u8], c: Cursor, out: &mut [u8], at: usize) -> usize {
+fn params(line: &[u8], c: Cursor, out: &mut [u8], at: usize, wide: bool) -> usize {
     let read = read_param(line, c);
     if !words::ends(line, read.next) {
         return bad(out, at);
     }
-    let derived = params::derive(read.param);
+    let derived = derive(read.param, wide);
     let answer = derived.answer;
     if answer.number != 0 {
         return refused(out, at, answer);
@@ -94,15 +98,99 @@ fn decode(line: &[u8], c: Cursor, out: &mut [u8], at: usize) -> usize {
     answer_hex(out, at, decoded.answer, pattern_of(decoded.value), 16)
 }
 
-// The command on a load.
-fn of_loads(name: &[u8], line: &[u8], c: Cursor, out: &mut [u8], at: usize) -> usize {
-    if check::same(name, b"load") {
-        return loads::load(line, c, out, at);
+fn coord128(line: &[u8], c: Cursor, out: &mut [u8], at: usize) -> usize {
+    let frac_bits = words::decimal(line, c);
+    let pattern = words::hex(line, frac_bits.next);
+    if !words::ends(line, pattern.next) {
+        return bad(out, at);
+    }
+    let coordinate = doubles128::f64_to_field(double_of(pattern.value), frac_bits.value);
+    let element = coordinate.element;
+    answer_wide_hex(out, at, coordinate.answer, element.low, element.high)
+}
+
+fn decode128(line: &[u8], c: Cursor, out: &mut [u8], at: usize) -> usize {
+    let frac_bits = words::decimal(line, c);
+    let number = wide::hex(line, frac_bits.next);
+    if !words::ends(line, number.next) {
+        return bad(out, at);
+    }
+    let element = Element {
+        low: number.low,
+        high: number.high,
+    };
+    let decoded = doubles128::field_to_f64(element, frac_bits.value);
+    answer_hex(out, at, decoded.answer, pattern_of(decoded.value), 16)
+}
+
+// The commands over Field128 on aggregates, but for those that take out.
+fn of_wide_aggregates(name: &[u8], line: &[u8], c: Cursor, out: &mut [u8], at: usize) -> usize {
+    if check::same(name, b"merge128") {
+        return aggregates::adding(line, c, out, at, Call::Merge, true);
+    }
+    if check::same(name, b"accumulate128") {
+        return aggregates::adding(line, c, out, at, Call::Accumulate, true);
+    }
+    if check::same(name, b"aggregate128") {
+        return aggregates::aggregate(line, c, out, at, true);
+    }
+    if check::same(name, b"unshard128") {
+        return aggregates::unshard(line, c, out, at, true);
     }
     bad(out, at)
 }
 
-// The commands on the parts of a full vector, and that above.
+// Those that do, and those above.
+fn of_wide_withdrawals(name: &[u8], line: &[u8], c: Cursor, out: &mut [u8], at: usize) -> usize {
+    if check::same(name, b"subtract128") {
+        return aggregates::adding(line, c, out, at, Call::Subtract, true);
+    }
+    if check::same(name, b"unmerge128") {
+        return aggregates::adding(line, c, out, at, Call::Unmerge, true);
+    }
+    of_wide_aggregates(name, line, c, out, at)
+}
+
+// The commands over Field128 on a report or on the circuits, and those above.
+fn of_wide_reports(name: &[u8], line: &[u8], c: Cursor, out: &mut [u8], at: usize) -> usize {
+    if check::same(name, b"encode128") {
+        return report_cases::encode(line, c, out, at, false, true);
+    }
+    if check::same(name, b"wrtests128") {
+        return report_cases::wrtests(line, c, out, at, false, true);
+    }
+    if check::same(name, b"valid128") {
+        return circuits::valid(line, c, out, at, true);
+    }
+    if check::same(name, b"valideq128") {
+        return circuits::valideq(line, c, out, at, true);
+    }
+    of_wide_withdrawals(name, line, c, out, at)
+}
+
+// The commands over Field128 on the inputs or one number, and those above.
+fn of_wide(name: &[u8], line: &[u8], c: Cursor, out: &mut [u8], at: usize) -> usize {
+    if check::same(name, b"params128") {
+        return params(line, c, out, at, true);
+    }
+    if check::same(name, b"coord128") {
+        return coord128(line, c, out, at);
+    }
+    if check::same(name, b"decode128") {
+        return decode128(line, c, out, at);
+    }
+    of_wide_reports(name, line, c, out, at)
+}
+
+// The command on a load, and those above.
+fn of_loads(name: &[u8], line: &[u8], c: Cursor, out: &mut [u8], at: usize) -> usize {
+    if check::same(name, b"load") {
+        return loads::load(line, c, out, at);
+    }
+    of_wide(name, line, c, out, at)
+}
+
+// The commands on the parts of a full vector, and those above.
 fn of_vectors(name: &[u8], line: &[u8], c: Cursor, out: &mut [u8], at: usize) -> usize {
     if check::same(name, b"gradient_part") {
         return vectors::part(line, c, out, at, Which::Gradient);
@@ -119,10 +207,10 @@ fn of_vectors(name: &[u8], line: &[u8], c: Cursor, out: &mut [u8], at: usize) ->
 // The commands on the circuits, and those above.
 fn of_circuits(name: &[u8], line: &[u8], c: Cursor, out: &mut [u8], at: usize) -> usize {
     if check::same(name, b"valid") {
-        return circuits::valid(line, c, out, at);
+        return circuits::valid(line, c, out, at, false);
     }
     if check::same(name, b"valideq") {
-        return circuits::valideq(line, c, out, at);
+        return circuits::valideq(line, c, out, at, false);
     }
     of_vectors(name, line, c, out, at)
 }
@@ -141,16 +229,16 @@ fn of_cuts(name: &[u8], line: &[u8], c: Cursor, out: &mut [u8], at: usize) -> us
 // The commands on a report, and those above.
 fn of_reports(name: &[u8], line: &[u8], c: Cursor, out: &mut [u8], at: usize) -> usize {
     if check::same(name, b"encode") {
-        return report_cases::encode(line, c, out, at, false);
+        return report_cases::encode(line, c, out, at, false, false);
     }
     if check::same(name, b"wrtests") {
-        return report_cases::wrtests(line, c, out, at, false);
+        return report_cases::wrtests(line, c, out, at, false, false);
     }
     if check::same(name, b"encodeseed") {
-        return report_cases::encode(line, c, out, at, true);
+        return report_cases::encode(line, c, out, at, true, false);
     }
     if check::same(name, b"wrtestsseed") {
-        return report_cases::wrtests(line, c, out, at, true);
+        return report_cases::wrtests(line, c, out, at, true, false);
     }
     of_cuts(name, line, c, out, at)
 }
@@ -158,10 +246,10 @@ fn of_reports(name: &[u8], line: &[u8], c: Cursor, out: &mut [u8], at: usize) ->
 // The commands that take out of an aggregate, and those above.
 fn of_withdrawals(name: &[u8], line: &[u8], c: Cursor, out: &mut [u8], at: usize) -> usize {
     if check::same(name, b"subtract") {
-        return aggregates::adding(line, c, out, at, Call::Subtract);
+        return aggregates::adding(line, c, out, at, Call::Subtract, false);
     }
     if check::same(name, b"unmerge") {
-        return aggregates::adding(line, c, out, at, Call::Unmerge);
+        return aggregates::adding(line, c, out, at, Call::Unmerge, false);
     }
     of_reports(name, line, c, out, at)
 }
@@ -169,16 +257,16 @@ fn of_withdrawals(name: &[u8], line: &[u8], c: Cursor, out: &mut [u8], at: usize
 // The other commands on aggregates, and those above.
 fn of_aggregates(name: &[u8], line: &[u8], c: Cursor, out: &mut [u8], at: usize) -> usize {
     if check::same(name, b"merge") {
-        return aggregates::adding(line, c, out, at, Call::Merge);
+        return aggregates::adding(line, c, out, at, Call::Merge, false);
     }
     if check::same(name, b"accumulate") {
-        return aggregates::adding(line, c, out, at, Call::Accumulate);
+        return aggregates::adding(line, c, out, at, Call::Accumulate, false);
     }
     if check::same(name, b"aggregate") {
-        return aggregates::aggregate(line, c, out, at);
+        return aggregates::aggregate(line, c, out, at, false);
     }
     if check::same(name, b"unshard") {
-        return aggregates::unshard(line, c, out, at);
+        return aggregates::unshard(line, c, out, at, false);
     }
     of_withdrawals(name, line, c, out, at)
 }
@@ -214,7 +302,7 @@ fn answer_case(line: &[u8], case: Cursor, out: &mut [u8], at: usize) -> usize {
         ok: case.ok,
     };
     if check::same(name, b"params") {
-        return params(line, c, out, at);
+        return params(line, c, out, at, false);
     }
     if check::same(name, b"coord") {
         return coord(line, c, out, at);

@@ -70,7 +70,7 @@ fn cut_rows(
     helper: &mut [u64],
     given: &mut [u8],
 ) -> usize {
-    let len = lens_of(param).measurement;
+    let len = lens_of(param, false).measurement;
     let derived = [len, len, GIVEN];
     let lent = lent_three(line, c, derived, leader.len(), helper.len(), given.len());
     if !lent.ok {
@@ -157,7 +157,7 @@ fn answer_sample(
     row::fill(share);
     let answer = sampler::sample(param, stream, share);
     if answer.number == 0 {
-        ok_elements(out, at, share)
+        ok_elements(out, at, share, false)
     } else {
         refused_lent(out, at, answer, row::is_filled(share))
     }
@@ -173,7 +173,7 @@ fn sample_in(
 ) -> usize {
     let read = read_param(line, c);
     let stream_row = words::bytes(line, read.next, stream);
-    let lens = lens_of(read.param);
+    let lens = lens_of(read.param, false);
     let lent = lent_row(line, stream_row.next, lens.measurement, share.len());
     if !lent.ok {
         return bad(out, at);

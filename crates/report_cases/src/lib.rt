@@ -1,4 +1,5 @@
 // Of `replay`: the commands on a report: encoding, and the wraparound tests alone. The bytes of the tests are a row's, or come of a seed.
+// Those over Field128 are where wide is true, with a row.
 use answers::bad;
 use answers::ok_elements;
 use answers::ok_two_rows;
@@ -8,6 +9,7 @@ use case_inputs::lent_row;
 use case_inputs::lent_rows;
 use case_inputs::read_param;
 use lines::row;
+use lines::wide::elements;
 use lines::words;
 use lines::words::Cursor;
 use pine::PineParam;
@@ -15,12 +17,16 @@ use rules::Answer;
 
 fn make_encode(
     seeded: bool,
+    wide: bool,
     param: PineParam,
     gradient: &[f64],
     bytes: &[u8],
     measurement: &mut [u64],
     results: &mut [u64],
 ) -> Answer {
+    if wide {
+        return encode128::encode_with_wr_joint_rand(param, gradient, bytes, measurement, results);
+    }
     if seeded {
         return encode::encode_with_wr_joint_rand_seed(param, gradient, bytes, measurement, results);
     }
@@ -29,6 +35,7 @@ fn make_encode(
 
 fn answer_encode(
     seeded: bool,
+    wide: bool,
     param: PineParam,
     out: &mut [u8],
     at: usize,
@@ -39,9 +46,9 @@ fn answer_encode(
 ) -> usize {
     row::fill(measurement);
     row::fill(results);
-    let answer = make_encode(seeded, param, gradient, bytes, measurement, results);
+    let answer = make_encode(seeded, wide, param, gradient, bytes, measurement, results);
     if answer.number == 0 {
-        ok_two_rows(out, at, measurement, results)
+        ok_two_rows(out, at, measurement, results, wide)
     } else {
         let kept = row::is_filled(measurement) & row::is_filled(results);
         refused_lent(out, at, answer, kept)
@@ -55,13 +62,14 @@ fn encode_rows(
     out: &mut [u8],
     at: usize,
     seeded: bool,
+    wide: bool,
     param: PineParam,
     gradient: &[f64],
     bytes: &[u8],
     measurement: &mut [u64],
     results: &mut [u64],
 ) -> usize {
-    let lens = lens_of(param);
+    let lens = lens_of(param, wide);
     let lent = lent_rows(
         line,
         c,
@@ -76,6 +84,7 @@ fn encode_rows(
     let t = lent.second;
     answer_encode(
         seeded,
+        wide,
         param,
         out,
         at,
@@ -92,6 +101,7 @@ fn encode_in(
     out: &mut [u8],
     at: usize,
     seeded: bool,
+    wide: bool,
     gradient: &mut [f64],
     bytes: &mut [u8],
     measurement: &mut [u64],
@@ -108,6 +118,7 @@ fn encode_in(
         out,
         at,
         seeded,
+        wide,
         read.param,
         &gradient[0..n],
         &bytes[0..s],
@@ -116,17 +127,25 @@ fn encode_in(
     )
 }
 
-pub fn encode(line: &[u8], c: Cursor, out: &mut [u8], at: usize, seeded: bool) -> usize {
+pub fn encode(
+    line: &[u8],
+    c: Cursor,
+    out: &mut [u8],
+    at: usize,
+    seeded: bool,
+    wide: bool,
+) -> usize {
     let mut gradient = [0.0f64; 8192];
     let mut bytes = [0u8; 262144];
-    let mut measurement = [0u64; 16384];
-    let mut results = [0u64; 8192];
+    let mut measurement = [0u64; 32768];
+    let mut results = [0u64; 16384];
     encode_in(
         line,
         c,
         out,
         at,
         seeded,
+        wide,
         &mut gradient,
         &mut bytes,
         &mut measurement,
@@ -136,11 +155,15 @@ pub fn encode(line: &[u8], c: Cursor, out: &mut [u8], at: usize, seeded: bool) -
 
 fn make_wrtests(
     seeded: bool,
+    wide: bool,
     param: PineParam,
     gradient: &[u64],
     bytes: &[u8],
     results: &mut [u64],
 ) -> Answer {
+    if wide {
+        return wr_tests128::run_wr_tests(param, gradient, bytes, results);
+    }
     if seeded {
         return wr_tests::run_wr_tests_seed(param, gradient, bytes, results);
     }
@@ -149,6 +172,7 @@ fn make_wrtests(
 
 fn answer_wrtests(
     seeded: bool,
+    wide: bool,
     param: PineParam,
     out: &mut [u8],
     at: usize,
@@ -157,9 +181,9 @@ fn answer_wrtests(
     results: &mut [u64],
 ) -> usize {
     row::fill(results);
-    let answer = make_wrtests(seeded, param, gradient, bytes, results);
+    let answer = make_wrtests(seeded, wide, param, gradient, bytes, results);
     if answer.number == 0 {
-        ok_elements(out, at, results)
+        ok_elements(out, at, results, wide)
     } else {
         refused_lent(out, at, answer, row::is_filled(results))
     }
@@ -171,14 +195,15 @@ fn wrtests_in(
     out: &mut [u8],
     at: usize,
     seeded: bool,
+    wide: bool,
     gradient: &mut [u64],
     bytes: &mut [u8],
     results: &mut [u64],
 ) -> usize {
     let read = read_param(line, c);
-    let gradient_row = words::elements(line, read.next, gradient);
+    let gradient_row = elements(line, read.next, gradient, wide);
     let bytes_row = words::bytes(line, gradient_row.next, bytes);
-    let lens = lens_of(read.param);
+    let lens = lens_of(read.param, wide);
     let lent = lent_row(line, bytes_row.next, lens.results, results.len());
     if !lent.ok {
         return bad(out, at);
@@ -188,6 +213,7 @@ fn wrtests_in(
     let t = lent.len;
     answer_wrtests(
         seeded,
+        wide,
         read.param,
         out,
         at,
@@ -197,16 +223,24 @@ fn wrtests_in(
     )
 }
 
-pub fn wrtests(line: &[u8], c: Cursor, out: &mut [u8], at: usize, seeded: bool) -> usize {
-    let mut gradient = [0u64; 8192];
+pub fn wrtests(
+    line: &[u8],
+    c: Cursor,
+    out: &mut [u8],
+    at: usize,
+    seeded: bool,
+    wide: bool,
+) -> usize {
+    let mut gradient = [0u64; 16384];
     let mut bytes = [0u8; 262144];
-    let mut results = [0u64; 8192];
+    let mut results = [0u64; 16384];
     wrtests_in(
         line,
         c,
         out,
         at,
         seeded,
+        wide,
         &mut gradient,
         &mut bytes,
         &mut results,

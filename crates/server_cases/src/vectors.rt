@@ -34,7 +34,7 @@ fn answer_part(param: PineParam, out: &mut [u8], at: usize, full: &[u64], which:
     let mut place = u64::MAX;
     let part = part_of(param, full, which, &mut number, &mut place);
     if number == 0 && place == 0 {
-        return ok_elements(out, at, part);
+        return ok_elements(out, at, part, false);
     }
     let answer = Answer { number, place };
     refused_lent(out, at, answer, part.len() == 0)

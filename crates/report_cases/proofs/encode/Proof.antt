@@ -14,10 +14,10 @@ slice-aggregate-encode-in-2 : tie.Need-slice-aggregate-encode-in-2
 slice-aggregate-encode-in-2 c = sym (length-replicate {0} {A = ℕ} 262144 0)
 
 slice-aggregate-encode-in-3 : tie.Need-slice-aggregate-encode-in-3
-slice-aggregate-encode-in-3 c = sym (length-replicate {0} {A = ℕ} 16384 0)
+slice-aggregate-encode-in-3 c = sym (length-replicate {0} {A = ℕ} 32768 0)
 
 slice-aggregate-encode-in-4 : tie.Need-slice-aggregate-encode-in-4
-slice-aggregate-encode-in-4 c = sym (length-replicate {0} {A = ℕ} 8192 0)
+slice-aggregate-encode-in-4 c = sym (length-replicate {0} {A = ℕ} 16384 0)
 
 encode-in-requires : tie.Need-encode-in-requires
 encode-in-requires c κs = search needs

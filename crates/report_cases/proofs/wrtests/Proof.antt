@@ -8,13 +8,13 @@ use Rattle.report_cases.proofs.wrtests.Statement.{statement}
 use Rattle.report_cases.proofs.wrtests.Tie as tie
 
 slice-aggregate-wrtests-in : tie.Need-slice-aggregate-wrtests-in
-slice-aggregate-wrtests-in c = sym (length-replicate {0} {A = ℕ} 8192 0)
+slice-aggregate-wrtests-in c = sym (length-replicate {0} {A = ℕ} 16384 0)
 
 slice-aggregate-wrtests-in-2 : tie.Need-slice-aggregate-wrtests-in-2
 slice-aggregate-wrtests-in-2 c = sym (length-replicate {0} {A = ℕ} 262144 0)
 
 slice-aggregate-wrtests-in-3 : tie.Need-slice-aggregate-wrtests-in-3
-slice-aggregate-wrtests-in-3 c = sym (length-replicate {0} {A = ℕ} 8192 0)
+slice-aggregate-wrtests-in-3 c = sym (length-replicate {0} {A = ℕ} 16384 0)
 
 wrtests-in-requires : tie.Need-wrtests-in-requires
 wrtests-in-requires c κs = search needs

@@ -8,10 +8,10 @@ use Rattle.server_cases.proofs.aggregates.add_rows.Statement.{statement
 use Rattle.server_cases.proofs.aggregates.add_rows.Tie as tie
 
 abbrev Inv-loop : tie.InvT-loop
-Inv-loop param line count agg₀ before₀ row₀ next₀ i₀ agg before row next i = (length agg ≡ length agg₀) × (length before ≡ length before₀) × (length row ≡ length row₀) × (i ≤ count)
+Inv-loop param wide line count agg₀ before₀ row₀ next₀ i₀ agg before row next i = (length agg ≡ length agg₀) × (length before ≡ length before₀) × (length row ≡ length row₀) × (i ≤ count)
 
 abbrev μ-loop : tie.MeasureT-loop
-μ-loop param line count agg₀ before₀ row₀ next₀ i₀ agg before row next i = count - i
+μ-loop param wide line count agg₀ before₀ row₀ next₀ i₀ agg before row next i = count - i
 
 loop-holds : tie.Need-loop-holds Inv-loop μ-loop
 loop-holds c = search needs

@@ -8,13 +8,13 @@ use Rattle.server_cases.proofs.aggregates.adding.Statement.{statement}
 use Rattle.server_cases.proofs.aggregates.adding.Tie as tie
 
 slice-aggregate-adding-in : tie.Need-slice-aggregate-adding-in
-slice-aggregate-adding-in c = sym (length-replicate {0} {A = ℕ} 8192 0)
+slice-aggregate-adding-in c = sym (length-replicate {0} {A = ℕ} 16384 0)
 
 slice-aggregate-adding-in-2 : tie.Need-slice-aggregate-adding-in-2
-slice-aggregate-adding-in-2 c = sym (length-replicate {0} {A = ℕ} 8192 0)
+slice-aggregate-adding-in-2 c = sym (length-replicate {0} {A = ℕ} 16384 0)
 
 slice-aggregate-adding-in-3 : tie.Need-slice-aggregate-adding-in-3
-slice-aggregate-adding-in-3 c = sym (length-replicate {0} {A = ℕ} 8192 0)
+slice-aggregate-adding-in-3 c = sym (length-replicate {0} {A = ℕ} 16384 0)
 
 adding-in-requires : tie.Need-adding-in-requires
 adding-in-requires c κs = search needs

@@ -8,13 +8,13 @@ use Rattle.server_cases.proofs.aggregates.aggregate.Statement.{statemen
 use Rattle.server_cases.proofs.aggregates.aggregate.Tie as tie
 
 slice-aggregate-aggregate-in : tie.Need-slice-aggregate-aggregate-in
-slice-aggregate-aggregate-in c = sym (length-replicate {0} {A = ℕ} 8192 0)
+slice-aggregate-aggregate-in c = sym (length-replicate {0} {A = ℕ} 16384 0)
 
 slice-aggregate-aggregate-in-2 : tie.Need-slice-aggregate-aggregate-in-2
-slice-aggregate-aggregate-in-2 c = sym (length-replicate {0} {A = ℕ} 8192 0)
+slice-aggregate-aggregate-in-2 c = sym (length-replicate {0} {A = ℕ} 16384 0)
 
 slice-aggregate-aggregate-in-3 : tie.Need-slice-aggregate-aggregate-in-3
-slice-aggregate-aggregate-in-3 c = sym (length-replicate {0} {A = ℕ} 8192 0)
+slice-aggregate-aggregate-in-3 c = sym (length-replicate {0} {A = ℕ} 16384 0)
 
 aggregate-in-requires : tie.Need-aggregate-in-requires
 aggregate-in-requires c κs = search needs

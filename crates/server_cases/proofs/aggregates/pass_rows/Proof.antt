@@ -8,10 +8,10 @@ use Rattle.server_cases.proofs.aggregates.pass_rows.Statement.{statemen
 use Rattle.server_cases.proofs.aggregates.pass_rows.Tie as tie
 
 abbrev Inv-loop : tie.InvT-loop
-Inv-loop line count row₀ next₀ i₀ row next i = (length row ≡ length row₀) × (i ≤ count)
+Inv-loop line count wide row₀ next₀ i₀ row next i = (length row ≡ length row₀) × (i ≤ count)
 
 abbrev μ-loop : tie.MeasureT-loop
-μ-loop line count row₀ next₀ i₀ row next i = count - i
+μ-loop line count wide row₀ next₀ i₀ row next i = count - i
 
 loop-holds : tie.Need-loop-holds Inv-loop μ-loop
 loop-holds c = search needs

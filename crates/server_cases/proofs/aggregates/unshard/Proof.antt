@@ -8,10 +8,10 @@ use Rattle.server_cases.proofs.aggregates.unshard.Statement.{statement}
 use Rattle.server_cases.proofs.aggregates.unshard.Tie as tie
 
 slice-aggregate-unshard-in : tie.Need-slice-aggregate-unshard-in
-slice-aggregate-unshard-in c = sym (length-replicate {0} {A = ℕ} 8192 0)
+slice-aggregate-unshard-in c = sym (length-replicate {0} {A = ℕ} 16384 0)
 
 slice-aggregate-unshard-in-2 : tie.Need-slice-aggregate-unshard-in-2
-slice-aggregate-unshard-in-2 c = sym (length-replicate {0} {A = ℕ} 8192 0)
+slice-aggregate-unshard-in-2 c = sym (length-replicate {0} {A = ℕ} 16384 0)
 
 slice-aggregate-unshard-in-3 : tie.Need-slice-aggregate-unshard-in-3
 slice-aggregate-unshard-in-3 c = rw length-replicate

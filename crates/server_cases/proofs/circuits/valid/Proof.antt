@@ -8,10 +8,10 @@ use Rattle.server_cases.proofs.circuits.valid.Statement.{statement}
 use Rattle.server_cases.proofs.circuits.valid.Tie as tie
 
 slice-aggregate-valid-in : tie.Need-slice-aggregate-valid-in
-slice-aggregate-valid-in c = sym (length-replicate {0} {A = ℕ} 16384 0)
+slice-aggregate-valid-in c = sym (length-replicate {0} {A = ℕ} 32768 0)
 
 slice-aggregate-valid-in-2 : tie.Need-slice-aggregate-valid-in-2
-slice-aggregate-valid-in-2 c = sym (length-replicate {0} {A = ℕ} 8192 0)
+slice-aggregate-valid-in-2 c = sym (length-replicate {0} {A = ℕ} 16384 0)
 
 valid-in-requires : tie.Need-valid-in-requires
 valid-in-requires c κs = search needs

@@ -8,7 +8,7 @@ use Rattle.server_cases.proofs.circuits.valideq.Statement.{statement}
 use Rattle.server_cases.proofs.circuits.valideq.Tie as tie
 
 slice-aggregate-valideq-in : tie.Need-slice-aggregate-valideq-in
-slice-aggregate-valideq-in c = sym (length-replicate {0} {A = ℕ} 16384 0)
+slice-aggregate-valideq-in c = sym (length-replicate {0} {A = ℕ} 32768 0)
 
 valideq-in-requires : tie.Need-valideq-in-requires
 valideq-in-requires c κs = search needs
