@@ -1,5 +1,5 @@
 # Thin: each target is one command or two. A line that begins with '#:' is what bare make prints.
-.PHONY: help demo load test lib install example attack linked differential bench
+.PHONY: help demo load test edits lib install example attack linked differential bench
 
 #: make demo           a day on the farm: two controllers of valves, two servers, the sums
 #:                     needs the Rattle kit (rt on the PATH); some seconds
@@ -7,6 +7,8 @@
 #:                     needs the kit; about 2 minutes from nothing, seconds where all is proved
 #: make test           the gate: proves every crate from nothing, tries the edits that must fail, runs the programs
 #:                     needs the kit; up to an hour on two threads of one core
+#: make edits          tries the edits that the gate leaves out (tests/edits); CRATES names some
+#:                     needs the kit; about 15 minutes where all is proved
 #: make lib            build/libpine_c.a, proved, with pine.h beside it
 #:                     needs the kit; about 6 minutes from nothing, seconds where all is proved
 #: make install        copies both, and a file for pkg-config, under PREFIX (/usr/local); DESTDIR goes before that
@@ -46,6 +48,11 @@ load:
 test:
 	$(kit)
 	rt ci
+
+# those beside crates/*/must-fail, which the gate tries
+edits:
+	$(kit)
+	tests/edits/run $(CRATES)
 
 # in build/, for rt ci removes target/
 lib:
