@@ -67,7 +67,7 @@ module _ (i : PineParam) (e : paramAnswer Field128 i ≡ accepted) (R : Pine) (i
   pub bound-small : b ≤ 2 ^ 48
   bound-small = omega (arith, bound, sizes-128 i e .bound)
 
-  positive : 0 < b
+  pub positive : 0 < b
   positive = omega (arith, bound, bound-positive i)
 
   wide-room : 2 * b ≤ p128

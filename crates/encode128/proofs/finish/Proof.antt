@@ -9,7 +9,7 @@ use Rattle.field128.specs.Field128.{numberOf, elementsOf}
 use Rattle.doubles128.specs.Doubles128.{floorLimit128}
 use Rattle.measurement.specs.Parts.{Usable}
 use Rattle.encode.proofs.Encoding.{fraction-is}
-use Rattle.encode128.proofs.Narrowed.{bound-small, refused, asked, done}
+use Rattle.encode128.proofs.Narrowed.{bound-small, positive, refused, asked, done}
 use Rattle.encode128.proofs.Rows.{found-long}
 use borrow.Author.Needs.{needs}
 use Rattle.encode128.proofs.finish.Statement.{statement}
@@ -27,7 +27,7 @@ narrow-norm-requires c κs = search needs
 narrow-results-requires : tie.Need-narrow-results-requires
 narrow-results-requires c κs =
     let s = c .before .before .before .before .before .before .before .before .before in
-    (found-long (s .args .found .now) (length (s .args .small .now)) (s .pre .1 .1 .0 .1) (s .pre .1 .1 .1 .0 .1 .0 ∙ sym (s .pre .1 .1 .1 .1)), (s .pre .1 .1 .0 .0, bound-small (s .args .param) (s .pre .0 .1) (s .args .pine) (s .pre .0 .0) _ (c .before .before .before .wr-test-bound .ensures)))
+    (found-long (s .args .found .now) (length (s .args .small .now)) (s .pre .1 .1 .0 .1) (s .pre .1 .1 .1 .0 .1 .0 ∙ sym (s .pre .1 .1 .1 .1)), (s .pre .1 .1 .0 .0, (positive (s .args .param) (s .pre .0 .1) (s .args .pine) (s .pre .0 .0) _ (c .before .before .before .wr-test-bound .ensures), bound-small (s .args .param) (s .pre .0 .1) (s .args .pine) (s .pre .0 .0) _ (c .before .before .before .wr-test-bound .ensures))))
 
 check-norm-and-tests-requires : tie.Need-check-norm-and-tests-requires
 check-norm-and-tests-requires c κs =

@@ -1,54 +1,64 @@
 -- `narrow::narrow_results` meets its contract. Assumes nothing.
 use mathlib.Core.Path.{_≡_, refl, sym, ap, _∙_}
-use mathlib.Core.List.{List, map}
-use Prim.Native.Nat.{ℕ, _+_, _-_, _*_, _<_}
+use Prim.Native.Nat.{_-_, _<_}
 use native.Mathlib.Omega.{arith}
 use borrow.Author.Needs.{needs}
-use lib.ListN.{length, getD, set, length-map, List·getD-map}
+use lib.ListN.{length, getD, length-set}
+use mathlib.Core.List.{map}
+use Rattle.rows.proofs.Walk.{Walking}
 use Rattle.rows.proofs.Elements.{below-at}
-use Rattle.rows.proofs.Walk.{walked-end, Walking, walking-next}
-use Rattle.field128.specs.Field128.{p128, elementsOf}
-use Rattle.field128.proofs.Pairs.{whole-twice}
-use Rattle.narrow.specs.Narrow.{narrowed}
+use Rattle.field128.specs.Field128.{p128, numberOf, elementsOf}
+use Rattle.narrow.specs.Narrow.{classOf, narrowed}
+use Rattle.narrow.proofs.Numbers.{sorted-by, narrowed-by}
+use Rattle.narrow.proofs.Each.{over-begin, over-inside, over-at, over-turn, over-length, over-end}
 use Rattle.narrow.proofs.narrow_results.Statement.{statement}
 use Rattle.narrow.proofs.narrow_results.Tie as tie
 
--- the invariant: the row is the results narrowed up to t, and as it was from there
-abbrev Inv : (b : ℕ) (rs d a : List ℕ) (t : ℕ) → Type 0
-Inv b rs d a t = Walking (map (narrowed b) (elementsOf rs)) d a t
-
-module _ (b : ℕ) (rs d : List ℕ) (same : length rs ≡ 2 * length d) where
-  many : length (elementsOf rs) ≡ length d
-  many = whole-twice rs (length d) same .1
-
-  long : length (map (narrowed b) (elementsOf rs)) ≡ length d
-  long = length-map (elementsOf rs) (narrowed b) ∙ many
-
-  turn : (a : List ℕ) (t x y : ℕ) → Inv b rs d a t → t < length a → x ≡ getD (elementsOf rs) t 0 → y ≡ narrowed b x → Inv b rs d (set a t y) (t + 1)
-  turn a t x y inv h e f =
-      walking-next (narrowed b 0) (map (narrowed b) (elementsOf rs)) d a t y long inv h (f ∙ ap (narrowed b) e ∙ sym (List·getD-map (narrowed b) (elementsOf rs) t 0))
-
+-- the invariant: the row has the results narrowed up to t, and from there where they lie
 abbrev Inv-loop : tie.InvT-loop
-Inv-loop results bound row₀ t₀ row t = Inv bound results row₀ row t
+Inv-loop results bound row₀ t₀ row t = (length row ≡ length row₀) × Walking (map (narrowed bound) (elementsOf results)) (map (classOf bound) (elementsOf results)) row t
 
 abbrev μ-loop : tie.MeasureT-loop
-μ-loop results bound row₀ t₀ row t = length row₀ - t
+μ-loop results bound row₀ t₀ row t = length results - t
 
--- a result stands at t
-inside : (c : tie.In-loop Inv-loop μ-loop) → c .before .loop .t < length (elementsOf (c .before .before .before .before .args .results .now))
-inside c = omega (arith, many (c .before .before .before .before .args .bound) (c .before .before .before .before .args .results .now) (c .before .before .before .before .args .row .now) (c .before .before .before .before .pre .0), c .before .loop .inv .1)
+write-classes-requires : tie.Need-write-classes-requires Inv-loop μ-loop
+write-classes-requires c κs = search needs
 
 loop-holds : tie.Need-loop-holds Inv-loop μ-loop
-loop-holds c = (search needs, refl, refl)
+loop-holds c =
+    let w = c .before .before in
+    let s = w .before .before .before .before in
+    (refl, over-begin (narrowed (s .args .bound)) (classOf (s .args .bound)) (s .args .results .now) (s .args .row .now) (s .pre .0) _ (w .write-classes .ensures))
+
+-- a result stands at t
+inside : (l : tie.In-loop Inv-loop μ-loop) → l .before .loop .t < length (elementsOf (l .before .before .before .before .before .before .before .before .args .results .now))
+inside l =
+    let s = l .before .before .before .before .before .before .before .before in
+    over-inside (narrowed (s .args .bound)) (classOf (s .args .bound)) (s .args .results .now) (s .args .row .now) (s .pre .0) (l .before .loop .row) (l .before .loop .t) (l .before .loop .inv .1) (l .loop-test .taken)
+
+-- an element, and where it lies
+here : (c : tie.After-element Inv-loop μ-loop) → (numberOf (c .element .result) < p128) × (getD (c .before .before .before .loop .row) (c .before .before .before .loop .t) 0 ≡ classOf (c .before .before .before .before .before .before .before .before .before .before .args .bound) (numberOf (c .element .result)))
+here c =
+    let l = c .before .before in
+    let s = l .before .before .before .before .before .before .before .before in (
+      rw (c .element .ensures) (below-at p128 (elementsOf (s .args .results .now)) (s .pre .1 .0) (l .before .loop .t) (inside l)),
+      over-at (narrowed (s .args .bound)) (classOf (s .args .bound)) (s .args .results .now) (s .args .row .now) (s .pre .0) (l .before .loop .row) (l .before .loop .t) (l .before .loop .inv .1) (l .loop-test .taken) ∙ ap (classOf (s .args .bound)) (sym (c .element .ensures)),
+    )
+
+mul-class : tie.Need-mul-class Inv-loop μ-loop
+mul-class c = search needs
+
+slice-read-class : tie.Need-slice-read-class Inv-loop μ-loop
+slice-read-class c = search needs
 
 element-requires : tie.Need-element-requires Inv-loop μ-loop
-element-requires c κs = inside c
+element-requires c κs = inside (c .before)
 
 narrow-result-requires : tie.Need-narrow-result-requires Inv-loop μ-loop
 narrow-result-requires c κs =
-    let l = c .before in
-    let s = l .before .before .before .before in
-    (rw (c .element .ensures) (below-at p128 (elementsOf (s .args .results .now)) (s .pre .1 .0) (l .before .loop .t) (inside l)), s .pre .1 .1)
+    let s = c .before .before .before .before .before .before .before .before .before .before in
+    let h = here c in
+    (h .0, sorted-by (s .args .bound) _ _ (s .pre .1 .1 .0) (s .pre .1 .1 .1) (h .0) (h .1))
 
 mul-row : tie.Need-mul-row Inv-loop μ-loop
 mul-row c = search needs
@@ -60,22 +70,29 @@ add-t : tie.Need-add-t Inv-loop μ-loop
 add-t c = search needs
 
 loop-less : tie.Need-loop-less Inv-loop μ-loop
-loop-less c = search needs
+loop-less c =
+    let l = c .before .before .before in
+    let s = l .before .before .before .before .before .before .before .before in
+    omega (arith, over-length (narrowed (s .args .bound)) (classOf (s .args .bound)) (s .args .results .now) (s .args .row .now) (s .pre .0) (l .before .loop .row) (l .before .loop .t) (l .before .loop .inv .1), s .pre .0)
 
 loop-again : tie.Need-loop-again Inv-loop μ-loop
 loop-again c =
     let l = c .before .before .before in
-    let s = l .before .before .before in
-    turn (s .args .bound) (s .args .results .now) (s .args .row .now) (s .pre .0) (l .loop .row) (l .loop .t) _ _ (l .loop .inv) (omega arith) (c .before .element .ensures) (c .narrow-result .ensures)
+    let s = l .before .before .before .before .before .before .before .before in
+    let h = here (c .before) in
+    (length-set (l .before .loop .row) (l .before .loop .t) _ ∙ l .before .loop .inv .0, over-turn (narrowed (s .args .bound)) (classOf (s .args .bound)) (s .args .results .now) (s .args .row .now) (s .pre .0) (l .before .loop .row) (l .before .loop .t) _ _ (l .before .loop .inv .1) (l .loop-test .taken) (c .before .element .ensures) (c .narrow-result .ensures ∙ narrowed-by (s .args .bound) _ _ (s .pre .1 .1 .0) (s .pre .1 .1 .1) (h .0) (h .1)))
 
 same-length : tie.Need-same-length Inv-loop μ-loop
-same-length c = c .before .loop .inv .1
+same-length c =
+    let l = c .before in
+    let s = l .before .before .before .before .before .before .before in
+    over-length (narrowed (s .args .bound)) (classOf (s .args .bound)) (s .args .results .now) (s .args .row .now) (s .pre .0) (l .loop .row) (l .loop .t) (l .loop .inv .1)
 
 returns : tie.Need-returns Inv-loop μ-loop
 returns c =
     let l = c .before in
-    let s = l .before .before .before in
-    l .loop .inv .2 ∙ walked-end _ _ (l .loop .t) (long (s .args .bound) (s .args .results .now) (s .args .row .now) (s .pre .0)) (omega arith)
+    let s = l .before .before .before .before .before .before .before in
+    over-end (narrowed (s .args .bound)) (classOf (s .args .bound)) (s .args .results .now) (s .args .row .now) (s .pre .0) (l .loop .row) (l .loop .t) (l .loop .inv .1) (c .loop-test .left)
 
 pub narrow-results-spec : {M : Type 1} → statement M
 narrow-results-spec =
@@ -83,7 +100,10 @@ narrow-results-spec =
     (tie.spec
     Inv-loop
     μ-loop
+    write-classes-requires
     loop-holds
+    mul-class
+    slice-read-class
     element-requires
     narrow-result-requires
     mul-row
