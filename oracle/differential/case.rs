@@ -1,7 +1,7 @@
 //! A case: one call with all of its arguments.
 
-use crate::param::Param;
-use std::fmt::{Display, Formatter, Result};
+use crate::{field::Field, param::Param};
+use std::fmt::{Display, Formatter, LowerHex, Result};
 
 #[derive(Clone, Copy, PartialEq, Eq)]
 pub enum Call {
@@ -28,6 +28,7 @@ pub enum Call {
     Unshard,
 }
 
+/// Those over Field64, which has them all.
 pub const CALLS: [Call; 21] = [
     Call::CheckParam,
     Call::Derive,
@@ -52,8 +53,26 @@ pub const CALLS: [Call; 21] = [
     Call::Unshard,
 ];
 
+/// Those over Field128.
+pub const CALLS128: [Call; 14] = [
+    Call::CheckParam,
+    Call::Derive,
+    Call::F64ToField,
+    Call::FieldToF64,
+    Call::Encode,
+    Call::RunWrTests,
+    Call::Valid,
+    Call::ValidSqNormEqual,
+    Call::EmptyAggregate,
+    Call::Accumulate,
+    Call::Merge,
+    Call::Subtract,
+    Call::Unmerge,
+    Call::Unshard,
+];
+
 impl Call {
-    /// As in include/pine.h, after pine_.
+    /// As in include/pine.h, after pine_ or pine128_.
     pub fn name(self) -> &'static str {
         match self {
             Call::CheckParam => "check_param",
@@ -101,6 +120,7 @@ impl Call {
     }
 }
 
+/// A row of elements is one of their words.
 pub enum Row {
     /// Bit patterns; read.
     Doubles(Vec<u64>),
@@ -132,7 +152,7 @@ impl Row {
         }
     }
 
-    /// The elements that are read.
+    /// The words of the elements that are read.
     pub fn elements(&self) -> &[u64] {
         match self {
             Row::Elements(row) | Row::Aggregate(row) => row,
@@ -152,30 +172,44 @@ impl Row {
 
 pub struct Case {
     pub call: Call,
-    /// Of a call on one number, f alone counts.
+    /// Of a call on one number, the field and f alone count.
     pub param: Param,
     /// The double's bits, the element, or num_shares.
-    pub number: u64,
+    pub number: u128,
     /// In docs/PINE.md's order.
     pub rows: Vec<Row>,
 }
 
-fn write_vec(to: &mut Formatter, row: &[u64], width: usize) -> Result {
-    write!(to, " {}", row.len())?;
-    row.iter().try_for_each(|x| write!(to, " {x:0width$x}"))
+impl Case {
+    pub fn field(&self) -> &'static Field {
+        self.param.field
+    }
+
+    pub fn name(&self) -> String {
+        format!("{}{}", self.call.name(), self.field().name)
+    }
+
+    fn write_row(&self, to: &mut Formatter, row: &Row) -> Result {
+        match row {
+            Row::Doubles(row) => write_vec(to, row, 16),
+            Row::Elements(row) | Row::Aggregate(row) if row.len() % self.field().words != 0 => {
+                write!(to, " words")?;
+                write_vec(to, row, 1)
+            }
+            Row::Elements(row) | Row::Aggregate(row) => write_vec(to, &self.field().elements(row), 1),
+            Row::Bytes(bytes) if bytes.is_empty() => write!(to, " -"),
+            Row::Bytes(bytes) => {
+                write!(to, " ")?;
+                bytes.iter().try_for_each(|x| write!(to, "{x:02x}"))
+            }
+            Row::Written(_) | Row::WrittenBytes(_) => Ok(()),
+        }
+    }
 }
 
-fn write_row(to: &mut Formatter, row: &Row) -> Result {
-    match row {
-        Row::Doubles(row) => write_vec(to, row, 16),
-        Row::Elements(row) | Row::Aggregate(row) => write_vec(to, row, 1),
-        Row::Bytes(bytes) if bytes.is_empty() => write!(to, " -"),
-        Row::Bytes(bytes) => {
-            write!(to, " ")?;
-            bytes.iter().try_for_each(|x| write!(to, "{x:02x}"))
-        }
-        Row::Written(_) | Row::WrittenBytes(_) => Ok(()),
-    }
+fn write_vec(to: &mut Formatter, row: &[impl LowerHex], width: usize) -> Result {
+    write!(to, " {}", row.len())?;
+    row.iter().try_for_each(|x| write!(to, " {x:0width$x}"))
 }
 
 /// The line of oracle/README.md.
@@ -186,7 +220,7 @@ impl Display for Case {
             let [rule, switch] = [self.param.lets_miss(), self.param.bounds_true_norm()].map(u8::from);
             write!(to, "with {above} {below} {rule} {switch} ")?;
         }
-        write!(to, "{}", self.call.word())?;
+        write!(to, "{}{}", self.call.word(), self.field().name)?;
         match self.call {
             Call::F64ToField => return write!(to, " {} {:016x}", self.param.f, self.number),
             Call::FieldToF64 => return write!(to, " {} {:x}", self.param.f, self.number),
@@ -195,7 +229,7 @@ impl Display for Case {
         if self.call.has_shares() {
             write!(to, " {}", self.number)?;
         }
-        self.rows.iter().try_for_each(|row| write_row(to, row))?;
+        self.rows.iter().try_for_each(|row| self.write_row(to, row))?;
         if matches!(self.call, Call::ValidSqNormEqual | Call::EmptyAggregate) {
             write!(to, " 0")?;
         }

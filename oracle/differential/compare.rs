@@ -2,10 +2,11 @@
 
 use crate::{
     case::{Call, Case, Row},
+    draw,
     lent::Lent,
     original,
     ours::{self, Given},
-    param::{Param, P},
+    param::Param,
     random::Random,
     rules::{self, Answer, ACCEPTED},
 };
@@ -27,11 +28,11 @@ type Outcome = Result<(), String>;
 
 pub fn equal(what: &str, ours: &[u64], wanted: &[u64]) -> Outcome {
     if ours.len() != wanted.len() {
-        return Err(format!("{what}: ours has {} elements, wanted {}", ours.len(), wanted.len()));
+        return Err(format!("{what}: the length of ours is {}, wanted {}", ours.len(), wanted.len()));
     }
     match ours.iter().zip(wanted).position(|(x, y)| x != y) {
         None => Ok(()),
-        Some(i) => Err(format!("{what}, element {i}: ours {:x}, wanted {:x}", ours[i], wanted[i])),
+        Some(i) => Err(format!("{what}, at {i}: ours {:x}, wanted {:x}", ours[i], wanted[i])),
     }
 }
 
@@ -96,12 +97,13 @@ const MOST: u64 = 300;
 /// On a report that encoding wrote.
 fn circuits_give_zero(random: &mut Random, param: Param, written: &[Vec<u64>]) -> Outcome {
     let full = || Row::Elements(written.concat());
-    let joint_rand = Row::Elements([0; 3].map(|_| random.next() % P).to_vec());
+    let joint_rand = Row::Elements(param.field.row(&[0; 3].map(|_| draw::element(random, param.field))));
     for (call, rows) in [(Call::Valid, vec![full(), joint_rand]), (Call::ValidSqNormEqual, vec![full()])] {
         let circuit = Case { call, param, number: 1, rows };
         let given = ours::call(&circuit, &mut lend(random, &circuit));
-        let what = format!("{} of the report, the answer's number and the value", call.name());
-        equal(&what, &[given.answer.number, given.values[0]], &[0, 0])?;
+        let what = format!("{} of the report, the answer's number and the value", circuit.name());
+        let found = [&[given.answer.number], &given.values[..param.field.words]].concat();
+        equal(&what, &found, &vec![0; found.len()])?;
     }
     Ok(())
 }

@@ -1,16 +1,17 @@
 //! How many calls there were, by call and rule, as a table.
 
 use crate::{
-    case::{Call, CALLS},
+    case::{Case, CALLS},
     compare::Same,
+    field::FIELDS,
 };
 
-const RULES: [usize; 18] = [1, 2, 3, 4, 5, 6, 7, 8, 9, 10, 11, 12, 13, 17, 18, 19, 20, 21];
+const RULES: [usize; 19] = [1, 2, 3, 4, 5, 6, 7, 8, 9, 10, 11, 12, 13, 17, 18, 19, 20, 21, 23];
 
 #[derive(Clone, Copy, Default)]
 struct Count {
     /// By the answer's number.
-    answers: [u64; 22],
+    answers: [u64; 24],
     compared: u64,
     unchanged: u64,
     prepared: u64,
@@ -41,21 +42,22 @@ impl Count {
     }
 }
 
+/// By field, an element of which has so many words, and call.
 #[derive(Default)]
-pub struct Counts([Count; CALLS.len()]);
+pub struct Counts([[Count; CALLS.len()]; FIELDS.len()]);
 
 impl Counts {
-    pub fn add(&mut self, call: Call, same: &Same) {
+    pub fn add(&mut self, case: &Case, same: &Same) {
         let mut one = Count { compared: same.compared as u64, unchanged: same.unchanged as u64, ..Count::default() };
         one.prepared = same.prepared.into();
         one.answers[same.answer.number as usize] = 1;
-        self.0[call as usize].add(&one);
+        self.0[case.field().words - 1][case.call as usize].add(&one);
     }
 
     /// Says where the calls were; nothing where there were none.
     pub fn show(&self, title: &str) {
         let mut all = Count::default();
-        self.0.iter().for_each(|count| all.add(count));
+        self.0.iter().flatten().for_each(|count| all.add(count));
         if all.calls() == 0 {
             return;
         }
@@ -63,8 +65,10 @@ impl Counts {
         let rules = RULES.map(|rule| format!(" {rule} |"));
         println!("| call | calls | accepted |{} elements compared | elements unchanged |", rules.concat());
         println!("|---|{}", "---:|".repeat(RULES.len() + 4));
-        for call in CALLS.into_iter().filter(|call| self.0[*call as usize].calls() > 0) {
-            println!("| `{}` | {} |", call.name(), self.0[call as usize].cells().join(" | "));
+        for (field, counts) in FIELDS.into_iter().zip(&self.0) {
+            for (call, count) in CALLS.into_iter().zip(counts).filter(|(_, count)| count.calls() > 0) {
+                println!("| `{}{}` | {} |", call.name(), field.name, count.cells().join(" | "));
+            }
         }
         println!("| all | {} |", all.cells().join(" | "));
         if all.prepared > 0 {

@@ -1,9 +1,11 @@
-//! A history: calls on a few aggregates, ours on the rows that our calls left, the original's on those that its own did.
+//! A history: calls over one field on a few aggregates, ours on the rows that our calls left, the original's on those
+//! that its own did.
 
 use crate::{
     case::{Call, Case, Row},
     compare::{compare_on, equal, Same},
     draw::Calls,
+    field::Field,
     lent::Lent,
     random::Random,
     rules::ACCEPTED,
@@ -38,12 +40,16 @@ pub struct History {
 
 impl History {
     /// The aggregates hold random words at first.
-    pub fn new(random: &mut Random) -> History {
+    pub fn new(random: &mut Random, field: &'static Field) -> History {
         let many = random.between(2, 4) as usize;
-        let calls = Calls::new(random, many);
-        let original: Vec<Vec<u64>> = (0..many).map(|_| random.words(calls.d as usize)).collect();
+        let calls = Calls::new(random, field, many);
+        let original: Vec<Vec<u64>> = (0..many).map(|_| random.words(field.words * calls.d as usize)).collect();
         let ours = original.iter().map(|row| Some(Lent::new(random, &Row::Written(row.clone())))).collect();
         History { calls, ours, original, tallies: vec![Tally::new(); many] }
+    }
+
+    pub fn field(&self) -> &'static Field {
+        self.calls.field
     }
 
     pub fn next(&mut self, random: &mut Random) -> Option<Step> {
@@ -115,9 +121,11 @@ impl History {
 
     /// Whether each aggregate is what its tally adds up to.
     pub fn is_tallied(&self) -> Result<(), String> {
+        let (field, d) = (self.field(), self.calls.d as usize);
         for ((at, row), tally) in self.aggregates().zip(&self.tallies) {
             let shares = tally.iter().map(|(share, number)| (*number, &self.calls.shares[*share][..]));
-            equal(&format!("aggregate {at}, by its tally"), &row.now(), &whole::combined(row.len, shares))?;
+            let wanted = field.row(&whole::combined(field, d, shares));
+            equal(&format!("aggregate {at}, by its tally"), &row.now(), &wanted)?;
         }
         Ok(())
     }

@@ -2,14 +2,15 @@
 //!
 //!     pine-differential [--seed S] [--count N] [--call NAME].. [--only INDEX]
 //!
-//! N cases, of the names given or of all: a call, or a history of calls. The seed and its index alone decide a case;
-//! --only tries one. It stops at the first difference with status 1.
+//! N cases, of the names given or of all: a call over either field, or a history of calls over one. The seed and its
+//! index alone decide a case; --only tries one. It stops at the first difference with status 1.
 
 mod at_hand;
 mod case;
 mod compare;
 mod counts;
 mod draw;
+mod field;
 mod history;
 mod lent;
 mod options;
@@ -23,11 +24,12 @@ mod shares;
 mod whole;
 
 use at_hand::profile;
-use case::{Case, CALLS};
+use case::Case;
 use compare::{compare, Same};
 use counts::{grouped, Counts};
+use field::FIELDS;
 use history::History;
-use options::Options;
+use options::{Options, HISTORY};
 use random::Random;
 use std::{
     process::exit,
@@ -46,11 +48,12 @@ const HISTORIES: u64 = 32;
 fn drawn(options: &Options, index: u64) -> Option<(Drawn, Random)> {
     at_hand::set(options.seed, index);
     let mut random = Random::of_case(options.seed, index);
+    let field = random.pick(&FIELDS);
     if index % HISTORIES == HISTORIES - 1 {
-        return options.histories.then(|| (Drawn::History(History::new(&mut random)), random));
+        return options.takes(HISTORY, field).then(|| (Drawn::History(History::new(&mut random, field)), random));
     }
-    let call = random.pick(&CALLS);
-    options.calls.contains(&call).then(|| (Drawn::Call(draw::case(&mut random, call)), random))
+    let call = random.pick(field.calls);
+    options.takes(call.name(), field).then(|| (Drawn::Call(draw::case(&mut random, field, call)), random))
 }
 
 /// Where it is to be shown, the line comes first, since the case may end the process.
@@ -59,22 +62,22 @@ fn tried(case: &Case, shown: bool, attempt: impl FnOnce() -> Result<Same, String
         println!("{case}");
     }
     let same = attempt().unwrap_or_else(|difference| {
-        at_hand::say(&format!("{}: {difference}", case.call.name()));
+        at_hand::say(&format!("{}: {difference}", case.name()));
         println!("case: {case}");
         exit(1)
     });
     if shown {
-        println!("{}: {}: {}, no difference", profile(), case.call.name(), same.answer);
+        println!("{}: {}: {}, no difference", profile(), case.name(), same.answer);
     }
     same
 }
 
 fn play(mut history: History, random: &mut Random, shown: bool, counts: &mut Counts) {
     while let Some(step) = history.next(random) {
-        counts.add(step.case.call, &tried(&step.case, shown, || history.make(random, &step)));
+        counts.add(&step.case, &tried(&step.case, shown, || history.make(random, &step)));
     }
     if let Err(difference) = history.is_tallied() {
-        at_hand::say(&format!("history: {difference}"));
+        at_hand::say(&format!("{HISTORY}{}: {difference}", history.field().name));
         exit(1)
     }
 }
@@ -104,7 +107,7 @@ fn try_all(options: &Options) {
     let cases = (0..).filter_map(|index| drawn(options, index));
     for (made, (drawn, mut random)) in (1..=count).zip(cases) {
         match drawn {
-            Drawn::Call(case) => counts.add(case.call, &tried(&case, false, || compare(&mut random, &case))),
+            Drawn::Call(case) => counts.add(&case, &tried(&case, false, || compare(&mut random, &case))),
             Drawn::History(history) => {
                 histories += 1;
                 play(history, &mut random, false, &mut in_histories)

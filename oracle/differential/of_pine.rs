@@ -1,6 +1,7 @@
 /// What the driver asks and cannot name from outside this module, called as it stands.
 pub mod opened {
     use super::{msg::InputShareFor, vdaf::PineVec, *};
+    use crate::fields::{self, Elem};
     use prio_draft09::{
         codec::Encode,
         flp::Type,
@@ -11,21 +12,8 @@ pub mod opened {
     };
 
     /// For n, d, f, c, e, T and K, with another test bound than its own if one is given.
-    pub fn new<X>(inputs: [u64; 7], bound: Option<u64>) -> Result<Pine<Field64, X, 16>, VdafError> {
-        let [norm_bound, dimension, frac_bits, chunk_len, chunk_len_sq_norm_equal, num_wr_tests, num_wr_successes] =
-            inputs.map(|x| x as usize);
-        let param = PineParam {
-            norm_bound: norm_bound as u64,
-            dimension,
-            frac_bits,
-            chunk_len,
-            chunk_len_sq_norm_equal,
-            num_proofs: 2,
-            num_proofs_sq_norm_equal: 1,
-            num_wr_tests,
-            num_wr_successes,
-        };
-        let mut pine = Pine::new(&param, 0xffff_ffff)?;
+    pub fn new<F: Elem, X>(inputs: [u64; 7], bound: Option<u64>) -> Result<Pine<F, X, 16>, VdafError> {
+        let mut pine = fields::pine(inputs)?;
         if let Some(bound) = bound {
             set_bound(&mut pine, bound);
         }
@@ -33,9 +21,9 @@ pub mod opened {
     }
 
     /// The bound, and what `Pine::new` derives from it.
-    fn set_bound<X>(pine: &mut Pine<Field64, X, 16>, bound: u64) {
+    fn set_bound<F: Elem, X>(pine: &mut Pine<F, X, 16>, bound: u64) {
         let t = &mut pine.flp;
-        t.wr_test_bound = Field64::from(bound);
+        t.wr_test_bound = F::from(F::Integer::try_from(bound as usize).unwrap());
         t.wr_test_bits = bits(2 * bound - 1);
         t.bit_checked_len = 2 * t.sq_norm_bits + (1 + t.wr_test_bits) * t.num_wr_tests;
         pine.encoded_input_len = t.dimension + t.bit_checked_len;
@@ -52,13 +40,18 @@ pub mod opened {
         [t.input_len(), t.proof_len(), t.verifier_len(), t.joint_rand_len(), t.prove_rand_len(), t.query_rand_len()]
     }
 
+    /// Of an element that one word holds.
+    fn word<F: Elem>(x: F) -> u64 {
+        F::Integer::from(x).try_into().unwrap()
+    }
+
     /// The numbers of PineDerived, in its order, then the test bound; the scale by its bits.
-    pub fn record(pine: &Pine64) -> Vec<u64> {
+    pub fn record<F: Elem, X>(pine: &Pine<F, X, 16>) -> Vec<u64> {
         let (t, e) = (&pine.flp, &pine.flp_sq_norm_equal);
         let mut record = vec![t.dimension as u64, t.frac_bits as u64, scale(t.frac_bits).to_bits()];
         record.extend([t.chunk_len, e.chunk_len, t.num_wr_tests, t.num_wr_successes].map(|x| x as u64));
-        record.extend([u64::from(t.sq_norm_bound), t.sq_norm_bits as u64]);
-        let bound = u64::from(t.wr_test_bound);
+        record.extend([word(t.sq_norm_bound), t.sq_norm_bits as u64]);
+        let bound = word(t.wr_test_bound);
         record.extend([u64::from(bound.trailing_zeros()), t.wr_test_bits as u64]);
         record.extend([t.bit_checked_len, pine.encoded_input_len, t.input_len].map(|x| x as u64));
         record.extend([t.gadget_calls, e.gadget_calls].map(|x| x as u64));
@@ -69,16 +62,16 @@ pub mod opened {
         record
     }
 
-    pub fn f64_to_field(x: f64, frac_bits: u64) -> Result<Field64, VdafError> {
+    pub fn f64_to_field<F: Elem>(x: f64, frac_bits: u64) -> Result<F, VdafError> {
         super::f64_to_field(x, scale(frac_bits as usize))
     }
 
-    pub fn field_to_f64(y: Field64, frac_bits: u64) -> Result<f64, VdafError> {
+    pub fn field_to_f64<F: Elem>(y: F, frac_bits: u64) -> Result<f64, VdafError> {
         super::field_to_f64(y, scale(frac_bits as usize))
     }
 
-    pub fn run_wr_tests<X: Xof<16>>(pine: &Pine64, gradient: &[Field64], seed: &Seed<16>) -> Vec<Field64> {
-        pine.flp.run_wr_tests::<X, 16>(gradient, seed)
+    pub fn run_wr_tests<F: Elem, X: Xof<16>>(t: &PineType<F>, gradient: &[F], seed: &Seed<16>) -> Vec<F> {
+        t.run_wr_tests::<X, 16>(gradient, seed)
     }
 
     /// Of a whole report with its proofs, after both servers' prepare has accepted it: the leader's share, both seeds of
@@ -106,7 +99,7 @@ pub mod opened {
     }
 
     /// The gradient, the checked elements and the results, cut as `valid` does.
-    pub fn parts<'a>(pine: &Pine64, full: &'a [Field64]) -> [&'a [Field64]; 3] {
+    pub fn parts<'a, F, X>(pine: &Pine<F, X, 16>, full: &'a [F]) -> [&'a [F]; 3] {
         let (gradient, rest) = full.split_at(pine.flp.dimension);
         let (checked, rest) = rest.split_at(pine.flp.bit_checked_len);
         let (results, rest) = rest.split_at(pine.flp.num_wr_tests);
@@ -114,11 +107,11 @@ pub mod opened {
         [gradient, checked, results]
     }
 
-    pub fn pine_vec(row: Vec<Field64>) -> PineVec<Field64> {
+    pub fn pine_vec<F>(row: Vec<F>) -> PineVec<F> {
         PineVec(row)
     }
 
-    pub fn elements(row: PineVec<Field64>) -> Vec<Field64> {
+    pub fn elements<F>(row: PineVec<F>) -> Vec<F> {
         row.0
     }
 }

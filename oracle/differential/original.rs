@@ -4,6 +4,7 @@
 
 use crate::{
     case::{Call, Case, Row},
+    field::{Field, FIELD128, FIELD64},
     param::{Param, Sizes, STANDARD},
     seed::{self, SEED_LEN},
     shares::Brought,
@@ -11,11 +12,12 @@ use crate::{
 };
 use pine_oracle::{
     cut::{cut, UpToProofs},
-    pine::{opened, Pine, Pine64},
+    fields::Elem,
+    pine::{flp::PineType, opened, Pine},
     xofs::{choose_stream, ChosenXof, WatchedXof},
 };
 use prio_draft09::{
-    field::Field64,
+    field::{Field128, Field64},
     flp::{FlpError, Gadget, Type},
     vdaf::{
         xof::{IntoFieldVec, Seed, Xof, XofTurboShake128},
@@ -30,7 +32,7 @@ use std::{
     rc::Rc,
 };
 
-/// The values that a call gives back, and the rows that it writes.
+/// The values that a call gives back, and the rows that it writes; an element by its words.
 pub struct Given {
     pub values: Vec<u64>,
     pub rows: Vec<Vec<u64>>,
@@ -46,12 +48,44 @@ fn rows(rows: Vec<Vec<u64>>) -> Outcome<Given> {
     Ok(Given { values: vec![], rows })
 }
 
-fn fields(row: &Row) -> Vec<Field64> {
-    row.elements().iter().map(|x| Field64::from(*x)).collect()
+/// An element of a field, as the original has it.
+trait Theirs: Elem {
+    const FIELD: &'static Field;
+
+    fn of(x: u128) -> Self;
+    fn number(self) -> u128;
 }
 
-fn words(row: &[Field64]) -> Vec<u64> {
-    row.iter().map(|x| u64::from(*x)).collect()
+impl Theirs for Field64 {
+    const FIELD: &'static Field = &FIELD64;
+
+    fn of(x: u128) -> Field64 {
+        Field64::from(x as u64)
+    }
+
+    fn number(self) -> u128 {
+        u64::from(self).into()
+    }
+}
+
+impl Theirs for Field128 {
+    const FIELD: &'static Field = &FIELD128;
+
+    fn of(x: u128) -> Field128 {
+        Field128::from(x)
+    }
+
+    fn number(self) -> u128 {
+        u128::from(self)
+    }
+}
+
+fn fields<F: Theirs>(row: &Row) -> Vec<F> {
+    F::FIELD.elements(row.elements()).into_iter().map(F::of).collect()
+}
+
+fn words<F: Theirs>(row: &[F]) -> Vec<u64> {
+    F::FIELD.row(&row.iter().map(|x| x.number()).collect::<Vec<u128>>())
 }
 
 /// The bytes of the tests: a stream, or 16 that are a seed.
@@ -76,23 +110,20 @@ fn choose(stream: &[u8]) -> Seed<16> {
     seed::seed(&[7; 16])
 }
 
-fn run_wr_tests(pine: &Pine64, gradient: &Row, tests: Tests) -> Vec<u64> {
-    let gradient = fields(gradient);
-    words(&match tests {
-        Tests::Stream(stream) => opened::run_wr_tests::<ChosenXof>(pine, &gradient, &choose(stream)),
-        Tests::Seed(bytes) => opened::run_wr_tests::<XofTurboShake128>(pine, &gradient, &seed::seed(bytes)),
-    })
+fn run_wr_tests<F: Theirs>(t: &PineType<F>, gradient: &[F], tests: Tests) -> Vec<F> {
+    match tests {
+        Tests::Stream(stream) => opened::run_wr_tests::<F, ChosenXof>(t, gradient, &choose(stream)),
+        Tests::Seed(bytes) => opened::run_wr_tests::<F, XofTurboShake128>(t, gradient, &seed::seed(bytes)),
+    }
 }
 
-fn encode(pine: &Pine64, gradient: &[u64], tests: Tests) -> Outcome<Given> {
-    let gradient = gradient.iter().map(|x| f64::from_bits(*x));
-    let (measurement, results) = match tests {
-        Tests::Stream(stream) => pine.flp.encode_with_wr_joint_rand::<ChosenXof, 16>(gradient, &choose(stream))?,
-        Tests::Seed(bytes) => {
-            pine.flp.encode_with_wr_joint_rand::<XofTurboShake128, 16>(gradient, &seed::seed(bytes))?
-        }
-    };
-    rows(vec![words(&measurement), words(&results)])
+/// The measurement and the results.
+fn encode<F: Theirs>(t: &PineType<F>, gradient: &[u64], tests: Tests) -> Outcome<(Vec<F>, Vec<F>)> {
+    let gradient = doubles(gradient).into_iter();
+    Ok(match tests {
+        Tests::Stream(stream) => t.encode_with_wr_joint_rand::<ChosenXof, 16>(gradient, &choose(stream))?,
+        Tests::Seed(bytes) => t.encode_with_wr_joint_rand::<XofTurboShake128, 16>(gradient, &seed::seed(bytes))?,
+    })
 }
 
 /// Four pairs of bits with which a test adds nothing.
@@ -100,32 +131,31 @@ const NOTHING: u8 = 0x55;
 
 /// The original refuses where a test missed. So it is asked with such tests adding nothing; in the measurement that it
 /// gives they become zeros, and the first K others have the success bits.
-fn encode_with_misses(pine: &Pine64, param: &Param, gradient: &[u64], tests: Tests) -> Outcome<Given> {
-    let sizes = Sizes::of(param);
+fn encode_with_misses<F: Theirs>(t: &PineType<F>, param: &Param, gradient: &[u64], tests: Tests) -> Outcome<Given> {
+    let (sizes, d) = (Sizes::of(param), gradient.len());
     let mut passing = tests.stream(sizes.stream);
-    let in_range: Vec<bool> = whole::in_range(&whole::floors(gradient, param.f), &passing, &sizes).collect();
+    let in_range: Vec<bool> = whole::in_range(param, &whole::floors(gradient, param.f), &passing).collect();
     if !in_range.contains(&false) {
-        return encode(pine, gradient, tests);
+        let (measurement, results) = encode(t, gradient, tests)?;
+        return rows(vec![words(&measurement), words(&results)]);
     }
     for (bytes, in_range) in passing.chunks_mut(sizes.per_test).zip(&in_range) {
         if !in_range {
             bytes.fill(NOTHING);
         }
     }
-    let mut given = encode(pine, gradient, Tests::Stream(&passing))?;
-    let (elements, bits) = given.rows[0].split_at_mut(gradient.len() + 2 * sizes.bits);
+    let (mut measurement, _) = encode(t, gradient, Tests::Stream(&passing))?;
     let mut successes = 0;
-    for (test, in_range) in bits.chunks_mut(sizes.test_bits + 1).zip(&in_range) {
+    for (test, in_range) in measurement[d + 2 * sizes.bits..].chunks_mut(sizes.test_bits + 1).zip(&in_range) {
         if *in_range {
-            test[sizes.test_bits] = u64::from(successes < param.k);
+            test[sizes.test_bits] = if successes < param.k { F::one() } else { F::zero() };
             successes += 1;
         } else {
-            test.fill(0);
+            test.fill(F::zero());
         }
     }
-    let gradient = Row::Elements(elements[..gradient.len()].to_vec());
-    given.rows[1] = run_wr_tests(pine, &gradient, tests);
-    Ok(given)
+    let results = run_wr_tests(t, &measurement[..d], tests);
+    rows(vec![words(&measurement), words(&results)])
 }
 
 fn octets(bytes: &[u8]) -> Vec<u64> {
@@ -145,7 +175,7 @@ fn doubles(gradient: &[u64]) -> Vec<f64> {
 fn cut_with_misses(param: &Param, gradient: &[u64], brought: Brought) -> Outcome<Given> {
     let (sizes, numbers) = (Sizes::of(param), whole::floors(gradient, param.f));
     let stream = seed::stream(&brought.wr_seed(param, &numbers), sizes.stream);
-    if whole::in_range(&numbers, &stream, &sizes).any(|in_range| !in_range) {
+    if whole::in_range(param, &numbers, &stream).any(|in_range| !in_range) {
         let (leader, helper, seeds) = brought.cut(param, &numbers);
         return rows(vec![leader, helper, octets(&seeds)]);
     }
@@ -173,7 +203,7 @@ pub fn prepare(case: &Case, written: &[Vec<u64>]) -> Result<bool, String> {
     let (param, given) = (&case.param, written[2].iter().map(|x| *x as u8).collect::<Vec<u8>>());
     let (sizes, numbers) = (Sizes::of(param), whole::floors(gradient, param.f));
     let stream = seed::stream(&given[..SEED_LEN], sizes.stream);
-    if whole::in_range(&numbers, &stream, &sizes).any(|in_range| !in_range) {
+    if whole::in_range(param, &numbers, &stream).any(|in_range| !in_range) {
         return Ok(false);
     }
     let zeros = [0; SEED_LEN];
@@ -192,17 +222,17 @@ pub fn prepare(case: &Case, written: &[Vec<u64>]) -> Result<bool, String> {
 }
 
 #[derive(Debug)]
-struct Counted {
-    inner: Box<dyn Gadget<Field64>>,
+struct Counted<F: Theirs> {
+    inner: Box<dyn Gadget<F>>,
     calls: Rc<Cell<u64>>,
 }
 
-impl Gadget<Field64> for Counted {
-    fn call(&mut self, inp: &[Field64]) -> Result<Field64, FlpError> {
+impl<F: Theirs> Gadget<F> for Counted<F> {
+    fn call(&mut self, inp: &[F]) -> Result<F, FlpError> {
         self.calls.set(self.calls.get() + 1);
         self.inner.call(inp)
     }
-    fn call_poly(&mut self, outp: &mut [Field64], inp: &[Vec<Field64>]) -> Result<(), FlpError> {
+    fn call_poly(&mut self, outp: &mut [F], inp: &[Vec<F>]) -> Result<(), FlpError> {
         self.inner.call_poly(outp, inp)
     }
     fn arity(&self) -> usize {
@@ -219,22 +249,24 @@ impl Gadget<Field64> for Counted {
     }
 }
 
-fn circuit(t: &impl Type<Field = Field64>, shares: u64, full: &Row, joint_rand: &[Field64]) -> Outcome<Given> {
+fn circuit<F: Theirs>(t: &impl Type<Field = F>, shares: u128, full: &Row, joint_rand: &[F]) -> Outcome<Given> {
     let calls = Rc::new(Cell::new(0));
-    let counted = |inner| Box::new(Counted { inner, calls: calls.clone() }) as Box<dyn Gadget<Field64>>;
+    let counted = |inner| Box::new(Counted { inner, calls: calls.clone() }) as Box<dyn Gadget<F>>;
     let mut gadget = t.gadget().into_iter().map(counted).collect();
     let value = t.valid(&mut gadget, &fields(full), joint_rand, shares as usize)?;
-    values(vec![u64::from(value), calls.get()])
+    let mut given = words(&[value]);
+    given.push(calls.get());
+    values(given)
 }
 
 /// Where the part begins in the vector, and its length.
-fn part(pine: &Pine64, full: &Row, which: usize) -> Outcome<Given> {
+fn part<F: Theirs, X>(pine: &Pine<F, X, 16>, full: &Row, which: usize) -> Outcome<Given> {
     let parts = opened::parts(pine, &fields(full)).map(|part| part.len() as u64);
     values(vec![parts[..which].iter().sum(), parts[which]])
 }
 
-fn adding(agg: &Row, share: &Row, merge: bool) -> Outcome<Given> {
-    let (mut agg, share) = (opened::pine_vec(fields(agg)), opened::pine_vec(fields(share)));
+fn adding<F: Theirs>(agg: &Row, share: &Row, merge: bool) -> Outcome<Given> {
+    let (mut agg, share) = (opened::pine_vec(fields::<F>(agg)), opened::pine_vec(fields(share)));
     if merge {
         agg.merge(&share)?;
     } else {
@@ -244,15 +276,9 @@ fn adding(agg: &Row, share: &Row, merge: bool) -> Outcome<Given> {
 }
 
 /// The original takes nothing out of an aggregate; its field has the difference.
-fn taking_out(agg: &Row, share: &Row) -> Outcome<Given> {
-    let left: Vec<Field64> = fields(agg).iter().zip(fields(share)).map(|(x, y)| *x - y).collect();
+fn taking_out<F: Theirs>(agg: &Row, share: &Row) -> Outcome<Given> {
+    let left: Vec<F> = fields(agg).into_iter().zip(fields(share)).map(|(x, y): (F, F)| x - y).collect();
     rows(vec![words(&left)])
-}
-
-fn unshard(pine: &Pine64, left: &Row, right: &Row) -> Outcome<Given> {
-    let aggregates = [left, right].map(|row| opened::pine_vec(fields(row)));
-    let decoded = pine.unshard(&(), aggregates, 1)?;
-    rows(vec![decoded.iter().map(|x| x.to_bits()).collect()])
 }
 
 /// The test bound, where it is not the original's.
@@ -260,28 +286,30 @@ fn bound(param: &Param) -> Option<u64> {
     (param.alpha != STANDARD).then(|| Sizes::of(param).test_bound as u64)
 }
 
-fn answer(case: &Case) -> Outcome<Given> {
+fn answer<F: Theirs>(case: &Case) -> Outcome<Given> {
     let (number, f) = (case.number, case.param.f);
     match case.call {
-        Call::F64ToField => return values(vec![opened::f64_to_field(f64::from_bits(number), f)?.into()]),
-        Call::FieldToF64 => return values(vec![opened::field_to_f64(Field64::from(number), f)?.to_bits()]),
+        Call::F64ToField => {
+            return values(words::<F>(&[opened::f64_to_field(f64::from_bits(number as u64), f)?]));
+        }
+        Call::FieldToF64 => return values(vec![opened::field_to_f64(F::of(number), f)?.to_bits()]),
         _ => (),
     }
-    let pine = opened::new(case.param.inputs(), bound(&case.param))?;
+    let pine: Pine<F, XofTurboShake128, 16> = opened::new(case.param.inputs(), bound(&case.param))?;
     match (case.call, &case.rows[..]) {
         (Call::CheckParam, []) => values(vec![]),
         (Call::Derive, []) => values(opened::record(&pine)),
         (Call::Encode, [Row::Doubles(gradient), Row::Bytes(stream), ..]) => {
-            encode_with_misses(&pine, &case.param, gradient, Tests::Stream(stream))
+            encode_with_misses(&pine.flp, &case.param, gradient, Tests::Stream(stream))
         }
         (Call::EncodeSeed, [Row::Doubles(gradient), Row::Bytes(seed), ..]) => {
-            encode_with_misses(&pine, &case.param, gradient, Tests::Seed(seed))
+            encode_with_misses(&pine.flp, &case.param, gradient, Tests::Seed(seed))
         }
         (Call::RunWrTests, [gradient, Row::Bytes(stream), _]) => {
-            rows(vec![run_wr_tests(&pine, gradient, Tests::Stream(stream))])
+            rows(vec![words(&run_wr_tests(&pine.flp, &fields(gradient), Tests::Stream(stream)))])
         }
         (Call::RunWrTestsSeed, [gradient, Row::Bytes(seed), _]) => {
-            rows(vec![run_wr_tests(&pine, gradient, Tests::Seed(seed))])
+            rows(vec![words(&run_wr_tests(&pine.flp, &fields(gradient), Tests::Seed(seed)))])
         }
         (Call::Cut, [Row::Doubles(gradient), Row::Bytes(nonce), Row::Bytes(five), ..]) => {
             cut_with_misses(&case.param, gradient, Brought { nonce, five })
@@ -293,10 +321,13 @@ fn answer(case: &Case) -> Outcome<Given> {
         (Call::CheckedPart, [full]) => part(&pine, full, 1),
         (Call::ResultsPart, [full]) => part(&pine, full, 2),
         (Call::EmptyAggregate, [_]) => rows(vec![words(&opened::elements(pine.aggregate(&(), [])?))]),
-        (Call::Accumulate, [agg, share]) => adding(agg, share, false),
-        (Call::Merge, [agg, other]) => adding(agg, other, true),
-        (Call::Subtract | Call::Unmerge, [agg, share]) => taking_out(agg, share),
-        (Call::Unshard, [left, right, _]) => unshard(&pine, left, right),
+        (Call::Accumulate, [agg, share]) => adding::<F>(agg, share, false),
+        (Call::Merge, [agg, other]) => adding::<F>(agg, other, true),
+        (Call::Subtract | Call::Unmerge, [agg, share]) => taking_out::<F>(agg, share),
+        (Call::Unshard, [left, right, _]) => {
+            let aggregates = [left, right].map(|row| opened::pine_vec(fields(row)));
+            rows(vec![pine.unshard(&(), aggregates, 1)?.iter().map(|x| x.to_bits()).collect()])
+        }
         _ => unreachable!(),
     }
 }
@@ -312,6 +343,7 @@ pub fn keep_panics() {
 
 /// What it gives, or the error or panic.
 pub fn call(case: &Case) -> Result<Given, String> {
+    let answer = if case.field().is_wide() { answer::<Field128> } else { answer::<Field64> };
     match catch_unwind(AssertUnwindSafe(|| answer(case))) {
         Ok(outcome) => outcome.map_err(|error| format!("error: {error}")),
         Err(_) => Err(PANIC.take()),

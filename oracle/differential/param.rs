@@ -1,12 +1,10 @@
 //! The inputs, their limits, and what docs/PINE.md derives from them.
 
-/// p.
-pub const P: u64 = 0xffff_ffff_0000_0001;
+use crate::field::{digits, Field};
 
 /// From the least to the largest allowed.
 pub type Limits = (u64, u64);
 
-pub const N: Limits = (1, 3_037_000_499);
 pub const D: Limits = (1, 65536);
 pub const F: Limits = (0, 30);
 pub const CHUNK: Limits = (1, 65536);
@@ -21,10 +19,10 @@ pub fn within(x: u64, (low, high): Limits) -> bool {
     low <= x && x <= high
 }
 
-/// n, d, f, c, e, T and K of docs/PINE.md, and the later inputs; the layout is that of PineParam in include/pine.h.
-#[repr(C)]
+/// n, d, f, c, e, T and K of docs/PINE.md, the later inputs, and the field that a call with them is over.
 #[derive(Clone, Copy)]
 pub struct Param {
+    pub field: &'static Field,
     pub n: u64,
     pub d: u64,
     pub f: u64,
@@ -40,12 +38,10 @@ pub struct Param {
     pub true_norm: u8,
 }
 
-const _: () = assert!(size_of::<Param>() == 64);
-
 impl Param {
     /// For these seven, with the later ones as the original has them.
-    pub fn standard([n, d, f, c, e, t, k]: [u64; 7]) -> Param {
-        Param { n, d, f, c, e, t, k, alpha: STANDARD, test_rule: 0, true_norm: 0 }
+    pub fn standard(field: &'static Field, [n, d, f, c, e, t, k]: [u64; 7]) -> Param {
+        Param { field, n, d, f, c, e, t, k, alpha: STANDARD, test_rule: 0, true_norm: 0 }
     }
 
     /// Those that the original has.
@@ -67,10 +63,7 @@ impl Param {
     }
 }
 
-fn digits(x: u128) -> usize {
-    (128 - x.leading_zeros()) as usize
-}
-
+/// In elements, but for the stream.
 pub struct Sizes {
     /// B and its digits q.
     pub bound: u128,

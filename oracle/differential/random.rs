@@ -16,6 +16,11 @@ impl Random {
         z ^ (z >> 31)
     }
 
+    /// Of 128 binary digits.
+    pub fn next_wide(&mut self) -> u128 {
+        u128::from(self.next()) << 64 | u128::from(self.next())
+    }
+
     pub fn below(&mut self, n: u64) -> u64 {
         ((u128::from(self.next()) * u128::from(n)) >> 64) as u64
     }
@@ -41,9 +46,18 @@ impl Random {
         self.next() >> (63 - self.below(digits))
     }
 
+    /// The same, of up to 128.
+    pub fn short_wide(&mut self, digits: usize) -> u128 {
+        self.next_wide() >> (127 - self.index(digits))
+    }
+
     /// At most 2 away.
     pub fn near(&mut self, x: u64) -> u64 {
         x.saturating_add(self.below(3)).saturating_sub(self.below(3))
+    }
+
+    pub fn near_wide(&mut self, x: u128) -> u128 {
+        x.saturating_add(self.below(3).into()).saturating_sub(self.below(3).into())
     }
 
     /// From 0 up to 1.

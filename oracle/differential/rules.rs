@@ -2,7 +2,8 @@
 
 use crate::{
     case::{Call, Case, Row},
-    param::{within, Param, Sizes, CHUNK, D, F, N, P, SHARES, T},
+    field::Field,
+    param::{within, Param, Sizes, CHUNK, D, F, SHARES, T},
     seed::{self, SEED_LEN},
     shares::{self, Brought, FIVE_LEN, GIVEN_LEN, NONCE_LEN},
     whole,
@@ -42,7 +43,7 @@ fn rule_4(param: &Param) -> Option<Answer> {
 
 fn rules_on_inputs(param: &Param) -> Option<Answer> {
     rule(1, param.k > param.t)
-        .or(rule(2, !within(param.n, N)))
+        .or(rule(2, !within(param.n, param.field.norm_bound)))
         .or(rule(3, !within(param.d, D)))
         .or(rule_4(param))
         .or(rule(5, !within(param.c, CHUNK) || !within(param.e, CHUNK)))
@@ -52,12 +53,13 @@ fn rules_on_inputs(param: &Param) -> Option<Answer> {
 
 /// The lengths that the rows must have, but for the gradient of doubles.
 fn derived(call: Call, param: &Param) -> Vec<Option<usize>> {
-    let (d, t) = (Some(param.d as usize), Some(param.t as usize));
     let sizes = Sizes::of(param);
+    let words = |elements: usize| Some(param.field.words * elements);
+    let [d, t] = [param.d, param.t].map(|elements| words(elements as usize));
     match call {
         Call::CheckParam | Call::Derive | Call::F64ToField | Call::FieldToF64 => vec![],
-        Call::Encode => vec![None, Some(sizes.stream), Some(sizes.measurement), t],
-        Call::EncodeSeed => vec![None, Some(SEED_LEN), Some(sizes.measurement), t],
+        Call::Encode => vec![None, Some(sizes.stream), words(sizes.measurement), t],
+        Call::EncodeSeed => vec![None, Some(SEED_LEN), words(sizes.measurement), t],
         Call::RunWrTests => vec![d, Some(sizes.stream), t],
         Call::RunWrTestsSeed => vec![d, Some(SEED_LEN), t],
         Call::Cut => {
@@ -65,11 +67,11 @@ fn derived(call: Call, param: &Param) -> Vec<Option<usize>> {
             vec![None, Some(NONCE_LEN), Some(FIVE_LEN), len, len, given]
         }
         Call::Sample => vec![Some(shares::draws_len(&sizes)), Some(sizes.measurement)],
-        Call::Valid => vec![Some(sizes.full), Some(3)],
-        Call::ValidSqNormEqual | Call::GradientPart | Call::CheckedPart | Call::ResultsPart => vec![Some(sizes.full)],
+        Call::Valid => vec![words(sizes.full), words(3)],
+        Call::ValidSqNormEqual | Call::GradientPart | Call::CheckedPart | Call::ResultsPart => vec![words(sizes.full)],
         Call::EmptyAggregate => vec![d],
         Call::Accumulate | Call::Merge | Call::Subtract | Call::Unmerge => vec![d, d],
-        Call::Unshard => vec![d, d, d],
+        Call::Unshard => vec![d, d, Some(param.d as usize)],
     }
 }
 
@@ -81,16 +83,31 @@ fn rule_7(case: &Case) -> Option<Answer> {
 }
 
 fn rule_12(case: &Case) -> Option<Answer> {
-    rule_at(12, case.rows.iter().flat_map(|row| row.elements()).position(|x| *x >= P))
+    let field = case.field();
+    rule_at(12, case.rows.iter().flat_map(|row| field.elements(row.elements())).position(|x| x >= field.p))
 }
 
 fn rule_13(case: &Case) -> Option<Answer> {
-    rule(13, case.call.has_shares() && !within(case.number, SHARES))
+    rule(13, case.call.has_shares() && !within(case.number as u64, SHARES))
+}
+
+fn is_too_large(field: &Field, x: u128) -> bool {
+    field.centred(x).unsigned_abs() > field.decoded
+}
+
+/// Of the sums that are decoded.
+fn rule_23(case: &Case) -> Option<Answer> {
+    let (Call::Unshard, [left, right, _]) = (case.call, &case.rows[..]) else {
+        return None;
+    };
+    let field = case.field();
+    let [left, right] = [left, right].map(|row| field.elements(row.words()));
+    rule_at(23, left.iter().zip(&right).position(|(x, y)| is_too_large(field, field.sum(*x, *y))))
 }
 
 /// Rule 11, or 20 in its place.
-fn rule_on_tests(param: &Param, sizes: &Sizes, numbers: &[i128], stream: &[u8]) -> Option<Answer> {
-    let mut in_range = whole::in_range(numbers, stream, sizes);
+fn rule_on_tests(param: &Param, numbers: &[i128], stream: &[u8]) -> Option<Answer> {
+    let mut in_range = whole::in_range(param, numbers, stream);
     if !param.lets_miss() {
         return rule_at(11, in_range.position(|in_range| !in_range));
     }
@@ -102,7 +119,7 @@ fn rule_on_tests(param: &Param, sizes: &Sizes, numbers: &[i128], stream: &[u8]) 
 fn rules_on_norm(param: &Param, sizes: &Sizes, numbers: &[i128]) -> Option<Answer> {
     let is_long = || whole::true_squared_norm(numbers).is_none_or(|norm| norm > sizes.bound);
     rule(21, param.bounds_true_norm() && is_long())
-        .or_else(|| rule(10, u128::from(whole::squared_norm(numbers)) > sizes.bound))
+        .or_else(|| rule(10, whole::squared_norm(param.field, numbers) > sizes.bound))
 }
 
 fn rule_18(found: &[u64], sizes: &Sizes) -> Option<Answer> {
@@ -126,7 +143,7 @@ fn drawn(case: &Case, numbers: &[i128], sizes: &Sizes) -> Result<Vec<u8>, Answer
 fn rules_on_numbers(case: &Case, numbers: &[i128]) -> Option<Answer> {
     let sizes = Sizes::of(&case.param);
     rules_on_norm(&case.param, &sizes, numbers).or_else(|| match drawn(case, numbers, &sizes) {
-        Ok(stream) => rule_on_tests(&case.param, &sizes, numbers, &stream),
+        Ok(stream) => rule_on_tests(&case.param, numbers, &stream),
         Err(refusal) => Some(refusal),
     })
 }
@@ -136,7 +153,7 @@ fn rules_on_gradient(case: &Case) -> Option<Answer> {
         return None;
     };
     let coordinate = |(i, x): (usize, &u64)| {
-        whole::coordinate_rule(*x, case.param.f).map(|number| Answer { number, place: i as u64 })
+        whole::coordinate_rule(case.field(), *x, case.param.f).map(|number| Answer { number, place: i as u64 })
     };
     let rule_8_or_17 = gradient.iter().enumerate().find_map(coordinate);
     rule_8_or_17
@@ -152,15 +169,25 @@ fn rule_on_sample(case: &Case) -> Option<Answer> {
     rule_18(&shares::sampled(stream, sizes.measurement), &sizes)
 }
 
+fn rules_on_coordinate(case: &Case) -> Option<Answer> {
+    let number = || whole::coordinate_rule(case.field(), case.number as u64, case.param.f);
+    rule_4(&case.param).or_else(|| number().map(|number| Answer { number, place: 0 }))
+}
+
+fn rules_on_element(case: &Case) -> Option<Answer> {
+    let field = case.field();
+    rule_4(&case.param).or(rule(12, case.number >= field.p)).or_else(|| rule(23, is_too_large(field, case.number)))
+}
+
 pub fn answer(case: &Case) -> Answer {
     let refusal = match case.call {
-        Call::F64ToField => rule_4(&case.param)
-            .or_else(|| whole::coordinate_rule(case.number, case.param.f).map(|number| Answer { number, place: 0 })),
-        Call::FieldToF64 => rule_4(&case.param).or(rule(12, case.number >= P)),
+        Call::F64ToField => rules_on_coordinate(case),
+        Call::FieldToF64 => rules_on_element(case),
         _ => rules_on_inputs(&case.param)
             .or_else(|| rule_7(case))
             .or_else(|| rule_13(case))
             .or_else(|| rule_12(case))
+            .or_else(|| rule_23(case))
             .or_else(|| rules_on_gradient(case))
             .or_else(|| rule_on_sample(case)),
     };

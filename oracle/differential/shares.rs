@@ -1,8 +1,9 @@
-//! A report cut in two, by docs/PINE.md, with the original's XOF: the helper's share, the leader's, the two seeds.
+//! A report over Field64, cut in two by docs/PINE.md, with the original's XOF: the helper's share, the leader's, the
+//! two seeds.
 
 use crate::{
-    draw::difference,
-    param::{Param, Sizes, P},
+    field::{FIELD64, P64},
+    param::{Param, Sizes},
     seed::{self, SEED_LEN},
     whole,
 };
@@ -26,7 +27,7 @@ pub fn draws_len(sizes: &Sizes) -> usize {
 /// The first values below p, or fewer.
 pub fn sampled(stream: &[u8], len: usize) -> Vec<u64> {
     let values = stream.chunks_exact(8).map(|x| u64::from_le_bytes(x.try_into().unwrap()));
-    values.filter(|x| *x < P).take(len).collect()
+    values.filter(|x| *x < P64).take(len).collect()
 }
 
 /// A nonce and five seeds.
@@ -60,7 +61,7 @@ impl<'a> Brought<'a> {
     }
 
     pub fn wr_seed(self, param: &Param, numbers: &[i128]) -> Vec<u8> {
-        let first = whole::full_vector(param, numbers, &[]);
+        let first = FIELD64.row(&whole::full_vector(param, numbers, &[]));
         let helper = &self.helper(&Sizes::of(param))[..first.len()];
         self.joint([3, 1], [&less(&first, helper), helper], [WR_JOINT_RAND_PART, WR_JOINT_RAND_SEED])
     }
@@ -69,7 +70,7 @@ impl<'a> Brought<'a> {
     pub fn cut(self, param: &Param, numbers: &[i128]) -> (Vec<u64>, Vec<u64>, Vec<u8>) {
         let sizes = Sizes::of(param);
         let (helper, wr_seed) = (self.helper(&sizes), self.wr_seed(param, numbers));
-        let whole = whole::full_vector(param, numbers, &seed::stream(&wr_seed, sizes.stream));
+        let whole = FIELD64.row(&whole::full_vector(param, numbers, &seed::stream(&wr_seed, sizes.stream)));
         let leader = less(&whole[..sizes.measurement], &helper);
         let vf_seed = self.joint([4, 2], [&leader, &helper], [VF_JOINT_RAND_PART, VF_JOINT_RAND_SEED]);
         (leader, helper, [wr_seed, vf_seed].concat())
@@ -77,5 +78,5 @@ impl<'a> Brought<'a> {
 }
 
 fn less(row: &[u64], other: &[u64]) -> Vec<u64> {
-    row.iter().zip(other).map(|(x, y)| difference(*x, *y)).collect()
+    row.iter().zip(other).map(|(x, y)| FIELD64.difference((*x).into(), (*y).into()) as u64).collect()
 }

@@ -1,19 +1,21 @@
 //! The inputs.
 
 use crate::{
-    param::{within, Limits, Param, Sizes, ALPHA, CHUNK, D, F, N, P, T},
+    field::{Field, FIELD128, FIELD64, P64},
+    param::{within, Limits, Param, Sizes, ALPHA, CHUNK, D, F, T},
     random::Random,
 };
 use std::sync::LazyLock;
 
-/// The last n before n x n gets one more binary digit or the test bound doubles, and the first n after.
-static STEPS: LazyLock<Vec<u64>> = LazyLock::new(|| {
+/// The last n before n x n gets one more binary digit, the test bound doubles or Field64 ends, and the first n after:
+/// those over Field64, and those over Field128.
+static STEPS: LazyLock<[Vec<u64>; 2]> = LazyLock::new(|| {
     let last = |k: u32| [((1u128 << k) - 1).isqrt(), 10 * ((1u128 << k) - 1) / 87];
-    let both = |n: u128| [n as u64, n as u64 + 1];
-    let mut steps: Vec<u64> = (0..64).flat_map(last).flat_map(both).filter(|n| within(*n, N)).collect();
+    let mut steps: Vec<u64> = (0..=64).flat_map(last).flat_map(|n| [n as u64, n as u64 + 1]).collect();
+    steps.extend([FIELD64.norm_bound.1, FIELD64.norm_bound.1 + 1]);
     steps.sort();
     steps.dedup();
-    steps
+    [&FIELD64, &FIELD128].map(|field| steps.iter().copied().filter(|n| within(*n, field.norm_bound)).collect())
 });
 
 /// Where a narrower or a signed number would go wrong.
@@ -26,12 +28,12 @@ const WIDE: [u64; 15] = [
     (1 << 32) - 1,
     1 << 32,
     1 << 53,
-    P / 2,
-    P / 2 + 1,
+    P64 / 2,
+    P64 / 2 + 1,
     (1 << 63) - 1,
     1 << 63,
-    P - 1,
-    P,
+    P64 - 1,
+    P64,
     u64::MAX,
 ];
 
@@ -76,11 +78,11 @@ fn successes(random: &mut Random, t: u64) -> u64 {
     random.pick(&[0, 1, t - 1, t, t, any]).min(t)
 }
 
-fn norm_bound(random: &mut Random) -> u64 {
+fn norm_bound(random: &mut Random, field: &Field) -> u64 {
     if random.once_in(2) {
-        random.pick(&STEPS)
+        random.pick(&STEPS[field.words - 1])
     } else {
-        allowed(random, N)
+        allowed(random, field.norm_bound)
     }
 }
 
@@ -111,7 +113,7 @@ fn multiply(random: &mut Random, param: &mut Param) {
     let [above, below] = param.alpha.map(u128::from);
     let power = 1 << (1 + random.below(48));
     let step = ((power - 1) * below / above) as u64 + random.below(2);
-    if within(step, N) && random.once_in(2) {
+    if within(step, param.field.norm_bound) && random.once_in(2) {
         param.n = step;
     }
 }
@@ -122,8 +124,8 @@ pub fn break_alpha(random: &mut Random, param: &mut Param) {
     param.alpha = random.pick(&[[0, below], [above, 0], [0, 0]]);
 }
 
-fn with_chunks(random: &mut Random, n: u64, d: u64, f: u64, t: u64) -> Param {
-    let mut param = Param::standard([n, d, f, 1, 1, t, successes(random, t)]);
+fn with_chunks(random: &mut Random, field: &'static Field, d: u64, f: u64, t: u64) -> Param {
+    let mut param = Param::standard(field, [norm_bound(random, field), d, f, 1, 1, t, successes(random, t)]);
     (param.test_rule, param.true_norm) = (choice(random), choice(random));
     if random.once_in(4) {
         multiply(random, &mut param);
@@ -135,9 +137,9 @@ fn with_chunks(random: &mut Random, n: u64, d: u64, f: u64, t: u64) -> Param {
 }
 
 /// Any that are within their limits.
-pub fn any(random: &mut Random) -> Param {
-    let (n, d, f, t) = (norm_bound(random), allowed(random, D), allowed(random, F), allowed(random, T));
-    let mut param = with_chunks(random, n, d, f, t);
+pub fn any(random: &mut Random, field: &'static Field) -> Param {
+    let (d, f, t) = (allowed(random, D), allowed(random, F), allowed(random, T));
+    let mut param = with_chunks(random, field, d, f, t);
     if random.once_in(2) {
         (param.c, param.e) = (allowed(random, CHUNK), allowed(random, CHUNK));
     }
@@ -159,7 +161,7 @@ fn shape(random: &mut Random) -> (u64, u64) {
 /// One input just beyond its limit, so that the rows can have the lengths which that would give.
 fn just_beyond(random: &mut Random, param: &mut Param) {
     match random.below(8) {
-        0 => param.n = N.1 + 1,
+        0 => param.n = param.field.norm_bound.1 + 1,
         1 => param.d = D.1 + 1,
         2 => param.f = F.1 + 1,
         3 => param.c = CHUNK.1 + 1,
@@ -170,9 +172,9 @@ fn just_beyond(random: &mut Random, param: &mut Param) {
     }
 }
 
-fn with_shape(random: &mut Random, (d, t): (u64, u64)) -> Param {
-    let (n, f) = (norm_bound(random), if random.once_in(2) { 0 } else { random.between(F.0, F.1) });
-    with_chunks(random, n, d, f, t)
+fn with_shape(random: &mut Random, field: &'static Field, (d, t): (u64, u64)) -> Param {
+    let f = if random.once_in(2) { 0 } else { random.between(F.0, F.1) };
+    with_chunks(random, field, d, f, t)
 }
 
 /// For calls on rows of one length.
@@ -181,15 +183,15 @@ pub fn dimension(random: &mut Random) -> u64 {
 }
 
 /// For one of these calls.
-pub fn of_dimension(random: &mut Random, d: u64) -> Param {
+pub fn of_dimension(random: &mut Random, field: &'static Field, d: u64) -> Param {
     let (_, t) = shape(random);
-    with_shape(random, (d, t))
+    with_shape(random, field, (d, t))
 }
 
 /// For a call that has rows.
-pub fn for_rows(random: &mut Random) -> Param {
+pub fn for_rows(random: &mut Random, field: &'static Field) -> Param {
     let shape = shape(random);
-    let mut param = with_shape(random, shape);
+    let mut param = with_shape(random, field, shape);
     if random.once_in(128) {
         just_beyond(random, &mut param);
     }

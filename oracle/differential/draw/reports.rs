@@ -1,19 +1,17 @@
 //! Gradients, streams and full vectors.
 
 use crate::{
-    draw::{
-        elements::{self, HALF},
-        params, singles,
-    },
-    param::{Param, Sizes, N, P},
+    draw::{elements, params, singles},
+    field::{digits, Field, P64},
+    param::{Param, Sizes, ALPHA},
     random::Random,
     shares::{draws_len, MORE_DRAWS},
     whole::{self, SIGN},
 };
 
-/// Numbers whose squares are small modulo p, or nearly p: with others they make a v within the bound. The last two
-/// are beyond the limit of a floor.
-const WRAPPING: [i128; 14] = [
+/// Numbers whose squares are small modulo p, or nearly p, over Field64: with others they make a v within the bound. The
+/// last two are beyond the limit of a floor, and those next to them over Field64.
+const WRAPPING: [i128; 16] = [
     1 << 32,
     1 << 33,
     1 << 34,
@@ -25,8 +23,10 @@ const WRAPPING: [i128; 14] = [
     1 << 56,
     1 << 60,
     1 << 62,
-    HALF as i128,
+    (P64 / 2) as i128,
     1 << 63,
+    (1 << 64) - (1 << 11),
+    1 << 64,
     1 << 70,
 ];
 
@@ -55,25 +55,27 @@ fn in_ball(random: &mut Random, n: u64, d: usize) -> Vec<i128> {
 }
 
 /// The whole root of v, and a little more or less, as a norm bound.
-fn root(random: &mut Random, numbers: &[i128], less: u64) -> u64 {
-    (whole::squared_norm(numbers).isqrt() + random.below(3)).saturating_sub(less).clamp(N.0, N.1)
+fn root(random: &mut Random, field: &Field, numbers: &[i128], less: u64) -> u64 {
+    let (low, high) = field.norm_bound;
+    let root = whole::squared_norm(field, numbers).isqrt() as u64;
+    root.saturating_add(random.below(3)).saturating_sub(less).clamp(low, high)
 }
 
 /// Whole numbers for a gradient; some ways choose the norm bound by them.
 pub fn numbers(random: &mut Random, param: &mut Param) -> Vec<i128> {
-    let d = param.d as usize;
-    let way = if param.n > N.1 { 0 } else { random.below(8) };
+    let (field, d) = (param.field, param.d as usize);
+    let way = if param.n > field.norm_bound.1 { 0 } else { random.below(8) };
     if way < 6 {
         let numbers = in_ball(random, param.n, d);
         if way > 3 {
-            param.n = root(random, &numbers, 1);
+            param.n = root(random, field, &numbers, 1);
         }
         return numbers;
     }
     if way == 6 {
-        let numbers = if d < 5 || random.once_in(2) { wrapping(random, d) } else { completed(random, d, param.f) };
-        let more = if random.once_in(2) { params::allowed(random, N) } else { 0 };
-        param.n = root(random, &numbers, 0).max(more);
+        let numbers = if random.once_in(2) { wrapping(random, d) } else { wrapped(random, param) };
+        let more = if random.once_in(2) { params::allowed(random, field.norm_bound) } else { 0 };
+        param.n = root(random, field, &numbers, 0).max(more);
         return numbers;
     }
     at_test_bound(random, param)
@@ -95,32 +97,58 @@ fn wrapping(random: &mut Random, d: usize) -> Vec<i128> {
     numbers
 }
 
-/// One or two numbers of any size, and four whose squares, each as large as it can be, bring v down to a small one.
-fn completed(random: &mut Random, d: usize, f: u64) -> Vec<i128> {
+/// One or two numbers of any size, and those that bring v down to a small one.
+fn wrapped(random: &mut Random, param: &Param) -> Vec<i128> {
+    let (field, d) = (param.field, param.d as usize);
     let mut numbers: Vec<i128> = (0..d).map(|_| small(random, 1)).collect();
-    let first = random.index(d - 4);
-    for _ in 0..random.between(1, 2) {
-        let any = singles::double(random, f);
-        if whole::coordinate_rule(any, f).is_none() {
-            numbers[random.index(d)] = whole::floors(&[any], f)[0];
+    let at = random.index(d);
+    for at in [at, random.index(d)] {
+        let any = singles::double(random, param.f);
+        if whole::coordinate_rule(field, any, param.f).is_none() {
+            numbers[at] = whole::floors(&[any], param.f)[0];
         }
     }
-    numbers[first..first + 4].fill(0);
-    let mut left = elements::negated(whole::squared_norm(&numbers));
-    for number in &mut numbers[first..first + 4] {
-        let root = left.isqrt();
-        left -= root * root;
-        *number = signed(random, i128::from(root));
-    }
+    wrap_after(random, field, &mut numbers, at);
     numbers
 }
 
-/// Results at the test bound, where its square is small modulo p.
+/// The first 53 binary digits, so that it is a double.
+fn rounded(x: u128) -> u128 {
+    let more = digits(x).saturating_sub(53);
+    x >> more << more
+}
+
+/// Sets the four numbers after this one, or all others: each is as large as it can be for squares that add up to p at
+/// most, and the last mostly one more.
+fn wrap_after(random: &mut Random, field: &Field, numbers: &mut [i128], at: usize) {
+    let (d, many) = (numbers.len(), 4.min(numbers.len() - 1));
+    let places = (1..=many).map(|i| (at + i) % d);
+    places.clone().for_each(|place| numbers[place] = 0);
+    let mut left = field.p - whole::squared_norm(field, numbers);
+    for place in places {
+        let root = rounded(left.isqrt());
+        left -= root * root;
+        let more = place == (at + many) % d && !random.once_in(4);
+        numbers[place] = signed(random, root as i128 + i128::from(more));
+    }
+}
+
+/// Results at the test bound. Over Field64 its square is small modulo p; over Field128 other numbers bring v down, or
+/// the bound is below n.
 fn at_test_bound(random: &mut Random, param: &mut Param) -> Vec<i128> {
-    param.n = random.between(1 << 28, N.1);
-    let mut numbers: Vec<i128> = (0..param.d).map(|_| if random.once_in(4) { small(random, 1) } else { 0 }).collect();
-    let edge = Sizes::of(param).test_bound as i128 + small(random, 2);
-    numbers[random.index(param.d as usize)] = signed(random, edge);
+    let (field, d) = (param.field, param.d as usize);
+    let wraps = field.is_wide() && d > 2 && random.once_in(2);
+    if !field.is_wide() {
+        param.n = random.between(1 << 28, field.norm_bound.1);
+    } else if !wraps {
+        param.alpha = [1, random.between(3, ALPHA.1) as u16];
+    }
+    let mut numbers: Vec<i128> = (0..d).map(|_| if random.once_in(4) { small(random, 1) } else { 0 }).collect();
+    let (at, edge) = (random.index(d), Sizes::of(param).test_bound as i128 + small(random, 2));
+    numbers[at] = signed(random, edge);
+    if wraps {
+        wrap_after(random, field, &mut numbers, at);
+    }
     numbers
 }
 
@@ -182,47 +210,47 @@ pub fn values(random: &mut Random, sizes: &Sizes) -> Vec<u8> {
         _ => MORE_DRAWS - 1 + random.index(3),
     };
     for value in &mut values[..skipped] {
-        let any = random.between(P, u64::MAX);
-        *value = random.pick(&[P, P, P + 1, u64::MAX, any]);
+        let any = random.between(P64, u64::MAX);
+        *value = random.pick(&[P64, P64, P64 + 1, u64::MAX, any]);
     }
     if !random.once_in(4) {
         (1..values.len()).for_each(|place| values.swap(place, random.index(place + 1)));
     }
     if random.once_in(4) {
         let at = random.index(values.len());
-        values[at] = random.pick(&[0, 1, P - 1]);
+        values[at] = random.pick(&[0, 1, P64 - 1]);
     }
     values.iter().flat_map(|x| x.to_le_bytes()).collect()
 }
 
-fn changed(random: &mut Random, x: u64) -> u64 {
-    let any = elements::element(random);
-    random.pick(&[0, 1, (x + 1) % P, elements::difference(x, 1), P - 1, any])
+fn changed(random: &mut Random, field: &Field, x: u128) -> u128 {
+    let any = elements::element(random, field);
+    random.pick(&[0, 1, field.sum(x, 1), field.difference(x, 1), field.p - 1, any])
 }
 
 /// A full vector: of a report, with a few elements changed, one of two shares, of zeros and ones, or any.
-pub fn full(random: &mut Random, param: &mut Param) -> Vec<u64> {
-    let sizes = Sizes::of(param);
+pub fn full(random: &mut Random, param: &Param) -> Vec<u128> {
+    let (field, sizes) = (param.field, Sizes::of(param));
     let way = random.below(16);
     match way {
-        0 => return elements::row(random, sizes.full),
+        0 => return elements::row(random, field, sizes.full),
         1 => {
             let checked = param.d as usize..sizes.measurement;
-            let mut full = elements::row(random, sizes.full);
-            full[checked].iter_mut().for_each(|x| *x = random.below(2));
+            let mut full = elements::row(random, field, sizes.full);
+            full[checked].iter_mut().for_each(|x| *x = random.below(2).into());
             return full;
         }
-        2 => return vec![random.pick(&[0, 0, 1, P - 1]); sizes.full],
+        2 => return vec![random.pick(&[0, 0, 1, field.p - 1]); sizes.full],
         _ => (),
     }
     let numbers = in_ball(random, param.n, param.d as usize);
     let mut full = whole::full_vector(param, &numbers, &any_stream(random, sizes.stream));
     if way == 3 {
-        full.iter_mut().for_each(|x| *x = elements::difference(*x, elements::element(random)));
+        full.iter_mut().for_each(|x| *x = field.difference(*x, elements::element(random, field)));
     } else if way < 10 {
         for _ in 0..random.between(1, 2) {
             let at = random.index(full.len());
-            full[at] = changed(random, full[at]);
+            full[at] = changed(random, field, full[at]);
         }
     }
     full

@@ -3,16 +3,17 @@
 use crate::{
     case::{Call, Case},
     draw::{
-        elements::{negated, tie, HALF},
+        elements::{not_an_element, tie},
         params,
     },
-    param::{Param, F, P},
+    field::{digits, Field, P64},
+    param::{Param, F},
     random::Random,
     whole::{EXPONENT, SIGN},
 };
 
-/// Numbers that matter after scaling: where the floor, the digits of a double, the field or the limit of a floor turn.
-const MARKS: [f64; 15] = [
+/// Numbers that matter after scaling: where the floor, the digits of a double, a field or the limit of a floor turn.
+const MARKS: [f64; 17] = [
     0.5,
     1.0,
     2.0,
@@ -22,17 +23,19 @@ const MARKS: [f64; 15] = [
     4503599627370496.0,
     9007199254740992.0,
     4611686018427387904.0,
-    HALF as f64,
+    (P64 / 2) as f64,
     9223372036854775808.0,
-    P as f64,
+    P64 as f64,
     18446744073709549568.0,
     18446744073709551616.0,
     36893488147419103232.0,
+    170141183460469231731687303715884105728.0,
+    340282366920938463463374607431768211456.0,
 ];
 
-fn of_one(random: &mut Random, call: Call, number: impl Fn(&mut Random, u64) -> u64) -> Case {
+fn of_one(random: &mut Random, field: &'static Field, call: Call, number: impl Fn(&mut Random, u64) -> u128) -> Case {
     let f = if random.once_in(16) { params::broken(random, F) } else { params::allowed(random, F) };
-    let param = Param::standard([1, 1, f, 1, 1, 1, 1]);
+    let param = Param::standard(field, [1, 1, f, 1, 1, 1, 1]);
     Case { call, param, number: number(random, f), rows: vec![] }
 }
 
@@ -78,39 +81,50 @@ pub fn double(random: &mut Random, f: u64) -> u64 {
     size(random, f) | random.pick(&[0, SIGN])
 }
 
+/// The largest double whose floor is not beyond the limit.
+fn largest(field: &Field) -> f64 {
+    let near = field.floor as f64;
+    if near as u128 > field.floor {
+        f64::from_bits(near.to_bits() - 1)
+    } else {
+        near
+    }
+}
+
 /// The bits of a double whose floor is beyond the limit, for a scale of 2^f.
-pub fn beyond(random: &mut Random, f: u64) -> u64 {
-    let size = if random.once_in(2) { HALF as f64 } else { random.pick(&MARKS[9..]) };
+pub fn beyond(random: &mut Random, field: &Field, f: u64) -> u64 {
+    let size = random.pick(&MARKS).max(largest(field));
     over(size, f, 1 + steps(random, 1).abs()) | random.pick(&[0, SIGN])
 }
 
-pub fn f64_to_field(random: &mut Random) -> Case {
-    of_one(random, Call::F64ToField, double)
+pub fn f64_to_field(random: &mut Random, field: &'static Field) -> Case {
+    of_one(random, field, Call::F64ToField, |random, f| double(random, f).into())
 }
 
-fn to_decode(random: &mut Random) -> u64 {
+fn to_decode(random: &mut Random, field: &Field) -> u128 {
     let y = match random.below(8) {
         0 => {
-            let turn = random.pick(&[0, HALF, P, u64::MAX, 1 << 32, 1 << 53, 1 << 54]);
-            random.near(turn)
+            let turns = [0, field.decoded, field.half(), field.p, 1 << 32, 1 << 53, 1 << 54];
+            let turn = random.pick(&turns);
+            random.near_wide(turn)
         }
         1 => tie(random),
         2 => {
-            let power = 1 << random.below(64);
-            random.near(power)
+            let power = 1 << random.index(digits(field.p));
+            random.near_wide(power)
         }
-        3 => random.short(53),
-        4 => random.between(P, u64::MAX),
-        5 => random.next(),
-        _ => random.next() % P,
+        3 => random.short(53).into(),
+        4 => not_an_element(random, field),
+        5 => random.next_wide() % field.p,
+        _ => random.next_wide() % (field.decoded + 1),
     };
-    if y < P && random.once_in(2) {
-        negated(y)
+    if y < field.p && random.once_in(2) {
+        field.negated(y)
     } else {
         y
     }
 }
 
-pub fn field_to_f64(random: &mut Random) -> Case {
-    of_one(random, Call::FieldToF64, |random, _| to_decode(random))
+pub fn field_to_f64(random: &mut Random, field: &'static Field) -> Case {
+    of_one(random, field, Call::FieldToF64, |random, _| to_decode(random, field))
 }
