@@ -1,6 +1,7 @@
 // Internal: the wraparound tests over Field128, a block of tests at a time. Each limb of the coordinates goes
-// by Field64's tables or weights into a row of sums, and the three sums of a test are its result. A function
-// here asks its caller for what it does not test itself.
+// into a row of sums, and the three sums of a test are its result. Many tests go by tables of all three limbs,
+// modulo 2^64; few go limb by limb by Field64's weights. A function here asks its caller for what it does not
+// test itself.
 ghost use mathlib.Core.Path.{_≡_};
 ghost use Prim.Native.Nat.{_+_, _*_, _≤_, _<_};
 ghost use lib.ListN.{length};
@@ -9,10 +10,10 @@ ghost use Rattle.rows.specs.Rows.{Below};
 ghost use Rattle.field128.specs.Field128.{p128, elementsOf, wordsOf, Whole};
 ghost use Rattle.flp.specs.Tests.{testsOf};
 ghost use Rattle.groups.specs.Groups.{addGroup, roomFor};
-ghost use Rattle.limbs.specs.Limbs.{limbs, SameLength};
+ghost use Rattle.limbs.specs.Limbs.{limbs, modulusFor, widthFor, SameLength};
 
-// Adds to each sum what n bytes of its test, from byte j on, make of limb k of these coordinates. The row, for
-// the limbs, is spoilt, and so is the spare row.
+// Adds to each sum what n bytes of its test, from byte j on, make of limb k of these coordinates, modulo p of
+// Field64. The row, for the limbs, is spoilt, and so is the spare row.
 fn add_limb(
     part: &[u64],
     k: u64,
@@ -35,7 +36,7 @@ fn add_limb(
 }
 
 // The same of every limb, each into a row of sums.
-fn add_limbs(
+fn add_reduced(
     part: &[u64],
     per: usize,
     j: usize,
@@ -61,6 +62,35 @@ fn add_limbs(
     add_limb(part, 2, per, j, n, stream, row, spare, high);
 }
 
+// The same, modulo p of Field64 for few tests, modulo 2^64 for many.
+fn add_limbs(
+    part: &[u64],
+    per: usize,
+    j: usize,
+    n: usize,
+    stream: &[u8],
+    row: &mut [u64],
+    spare: &mut [u64],
+    low: &mut [u64],
+    middle: &mut [u64],
+    high: &mut [u64],
+)
+    requires { ⌜ (length (now low) * per ≤ length (now stream)) × ((j + n ≤ per) × (n ≤ widthFor (length (now low)))) ⌝ }
+    requires { ⌜ length (now row) ≡ length (elementsOf (now part)) ⌝ }
+    requires { ⌜ (length (elementsOf (now part)) ≤ 4 * n) × (768 ≤ length (now spare)) ⌝ }
+    requires { ⌜ (length (now middle) ≡ length (now low)) × (length (now high) ≡ length (now low)) ⌝ }
+    requires { ⌜ Below (modulusFor (length (now low))) (now low) × (Below (modulusFor (length (now low))) (now middle) × Below (modulusFor (length (now low))) (now high)) ⌝ }
+    ensures { λ _. ⌜ now (low .exit) ≡ addGroup (modulusFor (length (now (low .entry)))) per j n (limbs 0 (elementsOf (now (part .entry)))) (now (stream .entry)) (now (low .entry)) ⌝ }
+    ensures { λ _. ⌜ now (middle .exit) ≡ addGroup (modulusFor (length (now (low .entry)))) per j n (limbs 1 (elementsOf (now (part .entry)))) (now (stream .entry)) (now (middle .entry)) ⌝ }
+    ensures { λ _. ⌜ now (high .exit) ≡ addGroup (modulusFor (length (now (low .entry)))) per j n (limbs 2 (elementsOf (now (part .entry)))) (now (stream .entry)) (now (high .entry)) ⌝ }
+{
+    if low.len() <= columns::FEW {
+        add_reduced(part, per, j, n, stream, row, spare, low, middle, high);
+        return;
+    }
+    limb_tables::add_tabled(part, per, j, n, stream, row, spare, low, middle, high);
+}
+
 // The tests on each limb, group by group, up to so many bytes each.
 fn run_groups(
     gradient: &[u64],
@@ -74,11 +104,11 @@ fn run_groups(
     high: &mut [u64],
 )
     requires { ⌜ (length (now low) * per ≤ length (now stream)) × ((length (elementsOf (now gradient)) ≤ 4 * per) × (per < 65536)) ⌝ }
-    requires { ⌜ ((0 < width) × (width ≤ 64)) × ((4 * width ≤ length (now row)) × (roomFor (length (now low)) width ≤ length (now spare))) ⌝ }
+    requires { ⌜ ((0 < width) × (width ≤ widthFor (length (now low)))) × ((4 * width ≤ length (now row)) × (768 ≤ length (now spare))) ⌝ }
     requires { ⌜ (length (now middle) ≡ length (now low)) × (length (now high) ≡ length (now low)) ⌝ }
-    ensures { λ _. ⌜ now (low .exit) ≡ testsOf p64 per (length (now (low .entry))) (now (stream .entry)) (limbs 0 (elementsOf (now (gradient .entry)))) ⌝ }
-    ensures { λ _. ⌜ now (middle .exit) ≡ testsOf p64 per (length (now (low .entry))) (now (stream .entry)) (limbs 1 (elementsOf (now (gradient .entry)))) ⌝ }
-    ensures { λ _. ⌜ now (high .exit) ≡ testsOf p64 per (length (now (low .entry))) (now (stream .entry)) (limbs 2 (elementsOf (now (gradient .entry)))) ⌝ }
+    ensures { λ _. ⌜ now (low .exit) ≡ testsOf (modulusFor (length (now (low .entry)))) per (length (now (low .entry))) (now (stream .entry)) (limbs 0 (elementsOf (now (gradient .entry)))) ⌝ }
+    ensures { λ _. ⌜ now (middle .exit) ≡ testsOf (modulusFor (length (now (low .entry)))) per (length (now (low .entry))) (now (stream .entry)) (limbs 1 (elementsOf (now (gradient .entry)))) ⌝ }
+    ensures { λ _. ⌜ now (high .exit) ≡ testsOf (modulusFor (length (now (low .entry)))) per (length (now (low .entry))) (now (stream .entry)) (limbs 2 (elementsOf (now (gradient .entry)))) ⌝ }
 {
     rows::zero_row(low);
     rows::zero_row(middle);
@@ -120,13 +150,14 @@ fn run_limbs(
     results: &mut [u64],
 )
     requires { ⌜ (length (now low) * per ≤ length (now stream)) × ((length (elementsOf (now gradient)) ≤ 4 * per) × (per ≤ 16384)) ⌝ }
-    requires { ⌜ ((0 < width) × (width ≤ 64)) × ((4 * width ≤ length (now row)) × (roomFor (length (now low)) width ≤ length (now spare))) ⌝ }
+    requires { ⌜ ((0 < width) × (width ≤ widthFor (length (now low)))) × ((4 * width ≤ length (now row)) × (768 ≤ length (now spare))) ⌝ }
     requires { ⌜ SameLength (length (elementsOf (now results))) (now low) (now middle) (now high) ⌝ }
     requires { ⌜ Whole (now results) × Below p128 (elementsOf (now gradient)) ⌝ }
     ensures { λ _. ⌜ now (results .exit) ≡ wordsOf (testsOf p128 per (length (elementsOf (now (results .entry)))) (now (stream .entry)) (elementsOf (now (gradient .entry)))) ⌝ }
 {
     run_groups(gradient, per, width, stream, row, spare, low, middle, high);
-    limbs::join_rows(low, middle, high, results);
+    let reduced = low.len() <= columns::FEW;
+    limbs::join_rows(reduced, low, middle, high, results);
 }
 
 // Runs a block of tests, as many as there are results, each with `per` bytes of the stream.
@@ -136,9 +167,13 @@ pub fn run_block(gradient: &[u64], per: usize, stream: &[u8], results: &mut [u64
     ensures { λ _. ⌜ now (results .exit) ≡ wordsOf (testsOf p128 per (length (elementsOf (now (results .entry)))) (now (stream .entry)) (elementsOf (now (gradient .entry)))) ⌝ }
 {
     let tests = results.len() / 2;
-    let width = if tests > columns::FEW { 8 } else { 64 };
+    let width = if tests > columns::FEW {
+        limb_tables::WIDTH
+    } else {
+        64
+    };
     let mut row = [0u64; 256];
-    let mut spare = [0u64; 256];
+    let mut spare = [0u64; 768];
     let mut low = [0u64; 256];
     let mut middle = [0u64; 256];
     let mut high = [0u64; 256];

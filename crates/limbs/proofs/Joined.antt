@@ -1,5 +1,6 @@
 -- A test on elements of Field128 is three tests on their limbs. Assumes nothing.
 use mathlib.Core.Path.{_≡_, refl, sym, ap, _∙_}
+use mathlib.Core.Bool.{Bool, true, false}
 use mathlib.Core.List.{List, [], _∷_, map, map-id}
 use Prim.Native.Nat.{ℕ, zero, suc, _+_, _*_, _/_, _%_, _^_, _≤_, _<_}
 use native.Mathlib.Nat.{add-zero, mod-eq-of-lt, le-of-lt, lt-of-lt-of-le, div-lt-iff-lt-mul, add-mul-mod-self-right}
@@ -12,7 +13,7 @@ use Rattle.rows.specs.Rows.{Below}
 use Rattle.field128.specs.Field128.{p128}
 use Rattle.flp.specs.Bits.{groups}
 use Rattle.flp.specs.Tests.{pairs, weigh, testOf, testsOf}
-use Rattle.limbs.specs.Limbs.{limb, limbs, raiseLow, raiseMiddle, raiseHigh, joined, joinedRows}
+use Rattle.limbs.specs.Limbs.{limb, limbs, modulusOf, raiseLow, raiseMiddle, raiseHigh, joined, joinedRows}
 use Rattle.limbs.proofs.Readings.{Every, Stands, Bounded, Splits, sums, test-stands, test-raised, sums-split, join, lowered}
 
 -- every number of a row, or every one of a row below n, is such
@@ -57,14 +58,19 @@ high-splits x h = go (x / 2 ^ 43) (div-lt-iff-lt-mul (omega arith) .1 (lt-of-lt-
     go : (y : ℕ) → y < 2 ^ 86 → y + (0 + 2 ^ 43 * 0) ≡ 0 + (y % 2 ^ 43 + 2 ^ 43 * (y / 2 ^ 43 % 2 ^ 43))
     go y h = omega arith
 
-module _ (bytes xs : List ℕ) (below : Below p128 xs) (few : length xs ≤ 65536) where
-  limb-raised : (k raise : ℕ) → 2 ^ 59 ≤ raise → raise + raise < p64 → addMod p64 (testOf p64 (limbs k xs) bytes) raise + sums none (limb k) (pairs bytes) xs ≡ sums (limb k) none (pairs bytes) xs + raise
-  limb-raised k raise h room =
-      test-raised p64 (lit< tt) (limb k) (limb k) none (2 ^ 43) raise bytes xs
-      (every (λ x. Stands p64 (limb k x) (limb k x) 0) (λ x. stands p64 (limb k x) (omega (arith, limb-small k x))) xs)
-      (every (Bounded (limb k) none (2 ^ 43)) (λ x. (le-of-lt (limb-small k x), omega arith)) xs) (omega arith) room
+-- both moduli have room for the sums
+pub enough : (reduced : Bool) → 2 ^ 62 ≤ modulusOf reduced
+enough true = lit≤ tt
+enough false = lit≤ tt
 
-  whole : (addMod p64 (testOf p64 (limbs 0 xs) bytes) raiseLow + 2 ^ 43 * (addMod p64 (testOf p64 (limbs 1 xs) bytes) raiseMiddle + 2 ^ 43 * addMod p64 (testOf p64 (limbs 2 xs) bytes) raiseHigh))
+module _ (m : ℕ) (room : 2 ^ 62 ≤ m) (bytes xs : List ℕ) (below : Below p128 xs) (few : length xs ≤ 65536) where
+  limb-raised : (k raise : ℕ) → 2 ^ 59 ≤ raise → raise + raise < 2 ^ 62 → addMod m (testOf m (limbs k xs) bytes) raise + sums none (limb k) (pairs bytes) xs ≡ sums (limb k) none (pairs bytes) xs + raise
+  limb-raised k raise h twice =
+      test-raised m (omega arith) (limb k) (limb k) none (2 ^ 43) raise bytes xs
+      (every (λ x. Stands m (limb k x) (limb k x) 0) (λ x. stands m (limb k x) (omega (arith, limb-small k x))) xs)
+      (every (Bounded (limb k) none (2 ^ 43)) (λ x. (le-of-lt (limb-small k x), omega arith)) xs) (omega arith) (omega arith)
+
+  whole : (addMod m (testOf m (limbs 0 xs) bytes) raiseLow + 2 ^ 43 * (addMod m (testOf m (limbs 1 xs) bytes) raiseMiddle + 2 ^ 43 * addMod m (testOf m (limbs 2 xs) bytes) raiseHigh))
       + sums none (λ x. x) (pairs bytes) xs ≡ sums (λ x. x) none (pairs bytes) xs + (raiseLow + 2 ^ 43 * (raiseMiddle + 2 ^ 43 * raiseHigh))
   whole =
       let cs = pairs bytes in
@@ -80,17 +86,17 @@ module _ (bytes xs : List ℕ) (below : Below p128 xs) (few : length xs ≤ 6553
       ap (λ (ys : List ℕ). (testOf p128 ys bytes + sums none (λ x. x) (pairs bytes) xs) % p128) (sym (map-id xs))
       ∙ test-stands p128 (lit< tt) (λ x. x) (λ x. x) none bytes xs (every-below p128 (λ x. Stands p128 x x 0) (λ x h. stands p128 x (le-of-lt h)) xs below)
 
-  test-joined : joined (testOf p64 (limbs 0 xs) bytes) (testOf p64 (limbs 1 xs) bytes) (testOf p64 (limbs 2 xs) bytes) ≡ testOf p128 xs bytes
+  test-joined : joined m (testOf m (limbs 0 xs) bytes) (testOf m (limbs 1 xs) bytes) (testOf m (limbs 2 xs) bytes) ≡ testOf p128 xs bytes
   unfolding joined
   test-joined =
       lowered p128 (lit< tt) (testOf p128 xs bytes) _ (2 ^ 18 * p128) (sums (λ x. x) none (pairs bytes) xs) (sums none (λ x. x) (pairs bytes) xs) itself whole
       ∙ add-mul-mod-self-right (testOf p128 xs bytes) (2 ^ 18) p128 ∙ mod-eq-of-lt (test-below p128 (lit< tt) xs bytes)
 
-pub tests-joined : (per T : ℕ) (stream xs : List ℕ) → Below p128 xs → length xs ≤ 65536
-    → joinedRows (testsOf p64 per T stream (limbs 0 xs)) (testsOf p64 per T stream (limbs 1 xs)) (testsOf p64 per T stream (limbs 2 xs)) ≡ testsOf p128 per T stream xs
+pub tests-joined : (m : ℕ) → 2 ^ 62 ≤ m → (per T : ℕ) (stream xs : List ℕ) → Below p128 xs → length xs ≤ 65536
+    → joinedRows m (testsOf m per T stream (limbs 0 xs)) (testsOf m per T stream (limbs 1 xs)) (testsOf m per T stream (limbs 2 xs)) ≡ testsOf p128 per T stream xs
 unfolding testsOf
-tests-joined per T stream xs below few = go (groups per T stream)
+tests-joined m room per T stream xs below few = go (groups per T stream)
   where
-    go : (gs : List (List ℕ)) → joinedRows (map (testOf p64 (limbs 0 xs)) gs) (map (testOf p64 (limbs 1 xs)) gs) (map (testOf p64 (limbs 2 xs)) gs) ≡ map (testOf p128 xs) gs
+    go : (gs : List (List ℕ)) → joinedRows m (map (testOf m (limbs 0 xs)) gs) (map (testOf m (limbs 1 xs)) gs) (map (testOf m (limbs 2 xs)) gs) ≡ map (testOf p128 xs) gs
     go [] = refl
-    go (g ∷ gs) = (λ i. test-joined g xs below few i ∷ go gs i)
+    go (g ∷ gs) = (λ i. test-joined m room g xs below few i ∷ go gs i)

@@ -6,8 +6,6 @@ use native.Mathlib.Nat.{le-of-lt}
 use native.Mathlib.Omega.{arith}
 use lib.ListN.{length, getD, take, drop, replicate, length-replicate}
 use lib.Seq.{length-take-le}
-use lib.Dec.{lit<}
-use Rattle.field64.specs.Field.{p64}
 use Rattle.rows.specs.Rows.{Below}
 use Rattle.flp.specs.Tests.{testsOf}
 use Rattle.groups.specs.Groups.{addGroup, roomFor}
@@ -36,24 +34,24 @@ module _ {A : Type 0} (f : A → ℕ) where
 
 -- ---- the sums
 
-module _ (per : ℕ) (s ys : List ℕ) where
+module _ (m per : ℕ) (s ys : List ℕ) where
   -- after the bytes before j
   abbrev pub Summed : (T j : ℕ) (d : List ℕ) → Type 0
-  Summed T j d = (length d ≡ T) × (d ≡ testsOf p64 per T s (take (4 * j) ys))
+  Summed T j d = (length d ≡ T) × (d ≡ testsOf m per T s (take (4 * j) ys))
 
   pub summed-start : (T : ℕ) (d₀ d : List ℕ) → length d₀ ≡ T → d ≡ replicate (length d₀) 0 → Summed T 0 d
   summed-start T d₀ d l e =
       let n : length d ≡ T = ap length e ∙ length-replicate {A = ℕ} (length d₀) 0 ∙ l in
-      (n, groups-start p64 per s ys d d₀ e ∙ ap (λ (m : ℕ). testsOf p64 per m s (take (4 * 0) ys)) n)
+      (n, groups-start m per s ys d d₀ e ∙ ap (λ (k : ℕ). testsOf m per k s (take (4 * 0) ys)) n)
 
-  pub summed-below : (T j : ℕ) (d : List ℕ) → Summed T j d → Below p64 d
-  summed-below T j d h = groups-below p64 per s ys d j T (lit< tt) (h .1)
+  pub summed-below : 0 < m → (T j : ℕ) (d : List ℕ) → Summed T j d → Below m d
+  summed-below positive T j d h = groups-below m per s ys d j T positive (h .1)
 
-  pub summed-next : (T j e : ℕ) (part d d′ : List ℕ) → j < e → e ≤ per → part ≡ drop (4 * j) (take (4 * e) ys) → length d′ ≡ length d → d′ ≡ addGroup p64 per j (e - j) part s d → Summed T j d → Summed T e d′
-  summed-next T j e part d d′ h k c l a w = (l ∙ w .0, groups-next p64 per s ys d j e (e - j) T part d′ (lit< tt) (le-of-lt h, k) refl c (w .1) a)
+  pub summed-next : 0 < m → (T j e : ℕ) (part d d′ : List ℕ) → j < e → e ≤ per → part ≡ drop (4 * j) (take (4 * e) ys) → length d′ ≡ length d → d′ ≡ addGroup m per j (e - j) part s d → Summed T j d → Summed T e d′
+  summed-next positive T j e part d d′ h k c l a w = (l ∙ w .0, groups-next m per s ys d j e (e - j) T part d′ positive (le-of-lt h, k) refl c (w .1) a)
 
-  pub summed-end : (T T₀ j : ℕ) (d : List ℕ) → T ≡ T₀ → per ≤ j → length ys ≤ 4 * per → Summed T j d → d ≡ testsOf p64 per T₀ s ys
-  summed-end T T₀ j d e h l w = groups-end p64 per s ys d j T h l (w .1) ∙ ap (λ (n : ℕ). testsOf p64 per n s ys) e
+  pub summed-end : (T T₀ j : ℕ) (d : List ℕ) → T ≡ T₀ → per ≤ j → length ys ≤ 4 * per → Summed T j d → d ≡ testsOf m per T₀ s ys
+  summed-end T T₀ j d e h l w = groups-end m per s ys d j T h l (w .1) ∙ ap (λ (n : ℕ). testsOf m per n s ys) e
 
 -- ---- rows of 256 words, for limbs, for tables or weights and for sums
 

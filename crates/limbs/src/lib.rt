@@ -1,24 +1,23 @@
 // Internal: elements of Field128 by limbs of 43 bits, the lowest first. A test's result is a sum of
 // coordinates, some of them taken off, and of 65536 limbs that is less than 2^59 in size: so Field64 holds
-// it, and a test on elements is three tests on their limbs. A function here asks its caller for what it
-// does not test itself.
+// it, a word modulo 2^64 too, and a test on elements is three tests on their limbs. A function here asks its
+// caller for what it does not test itself.
 use field128::Element;
 use field128::Wide;
 ghost use mathlib.Core.Path.{_≡_};
 ghost use Prim.Native.Nat.{_*_, _%_, _^_, _≤_, _<_};
 ghost use lib.ListN.{length};
-ghost use Rattle.field64.specs.Field.{p64};
+ghost use Rattle.field64.specs.Field.{p64, addMod};
 ghost use Rattle.rows.specs.Rows.{Below};
 ghost use Rattle.field128.specs.Field128.{p128, numberOf, elementsOf, wordsOf, Whole};
-ghost use Rattle.limbs.specs.Limbs.{limb, limbs, joined, joinedRows, SameLength};
+ghost use Rattle.limbs.specs.Limbs.{limb, limbs, modulusOf, joined, joinedRows, SameLength};
 
-// What a result on low, middle or high limbs is raised by, as what is taken off modulo p of Field64: together
-// 2^18 times the modulus of Field128.
-const LESS_LOW: u64 = 0xefff_fffe_fffc_0001;
+// What a result on low, middle or high limbs is raised by: together 2^18 times the modulus of Field128.
+const RAISE_LOW: u64 = 0x1000_0000_0004_0000;
 
-const LESS_MIDDLE: u64 = 0xf000_0dff_0002_0001;
+const RAISE_MIDDLE: u64 = 0x0fff_f1ff_fffe_0000;
 
-const LESS_HIGH: u64 = 0xefff_ffff_0002_0001;
+const RAISE_HIGH: u64 = 0x0fff_ffff_fffe_0000;
 
 // Limb k of an element.
 pub fn limb_of(x: Element, k: u64) -> u64
@@ -68,28 +67,41 @@ fn shifted_twice(n: u64) -> Element
     })
 }
 
-// A test's result by its results on the three limbs. By bits, so that no branch is left in the machine code.
-pub fn join(low: u64, middle: u64, high: u64) -> Element
-    requires { ⌜ (low < p64) × ((middle < p64) × (high < p64)) ⌝ }
-    ensures { λ r. ⌜ numberOf r ≡ joined low middle high ⌝ }
+// A sum raised, modulo p of Field64 where it is reduced, else modulo 2^64. By bits, so that no branch on it is
+// left in the machine code.
+fn raised(reduced: bool, sum: u64, raise: u64) -> u64
+    requires { ⌜ (sum < modulusOf reduced) × ((0 < raise) × (raise < p64)) ⌝ }
+    ensures { λ r. ⌜ r ≡ addMod (modulusOf reduced) sum raise ⌝ }
+{
+    if reduced {
+        field64::sub_by_bits(sum, field64::P - raise)
+    } else {
+        std::num::wrapping_add_u64(sum, raise)
+    }
+}
+
+// A test's result by its results on the three limbs.
+pub fn join(reduced: bool, low: u64, middle: u64, high: u64) -> Element
+    requires { ⌜ (low < modulusOf reduced) × ((middle < modulusOf reduced) × (high < modulusOf reduced)) ⌝ }
+    ensures { λ r. ⌜ numberOf r ≡ joined (modulusOf reduced) low middle high ⌝ }
 {
     let below = Element {
-        low: field64::sub_by_bits(low, LESS_LOW),
+        low: raised(reduced, low, RAISE_LOW),
         high: 0,
     };
-    let lower = field128::add(below, shifted(field64::sub_by_bits(middle, LESS_MIDDLE)));
-    field128::add(lower, shifted_twice(field64::sub_by_bits(high, LESS_HIGH)))
+    let lower = field128::add(below, shifted(raised(reduced, middle, RAISE_MIDDLE)));
+    field128::add(lower, shifted_twice(raised(reduced, high, RAISE_HIGH)))
 }
 
 // Writes the results of tests by those on the three limbs.
-pub fn join_rows(low: &[u64], middle: &[u64], high: &[u64], results: &mut [u64])
+pub fn join_rows(reduced: bool, low: &[u64], middle: &[u64], high: &[u64], results: &mut [u64])
     requires { ⌜ Whole (now results) × SameLength (length (elementsOf (now results))) (now low) (now middle) (now high) ⌝ }
-    requires { ⌜ Below p64 (now low) × (Below p64 (now middle) × Below p64 (now high)) ⌝ }
-    ensures { λ _. ⌜ now (results .exit) ≡ wordsOf (joinedRows (now (low .entry)) (now (middle .entry)) (now (high .entry))) ⌝ }
+    requires { ⌜ Below (modulusOf reduced) (now low) × (Below (modulusOf reduced) (now middle) × Below (modulusOf reduced) (now high)) ⌝ }
+    ensures { λ _. ⌜ now (results .exit) ≡ wordsOf (joinedRows (modulusOf reduced) (now (low .entry)) (now (middle .entry)) (now (high .entry))) ⌝ }
 {
     let mut i = 0;
     while i < low.len() {
-        rows128::store(results, i, join(low[i], middle[i], high[i]));
+        rows128::store(results, i, join(reduced, low[i], middle[i], high[i]));
         i += 1;
     }
 }

@@ -1,2 +1,2 @@
 -- What the proofs of the functions cite: `Tables` of a group's tables.
-mod Tables
+pub mod Tables

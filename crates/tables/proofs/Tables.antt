@@ -12,7 +12,7 @@ use lib.Dec.{ltb}
 use borrow.Author.Tests.{ltb-true, ltb-false}
 use Rattle.field64.specs.Field.{addMod, subMod}
 use Rattle.field64.specs.Sums.{evaluate}
-use Rattle.field64.proofs.Modular.{modular, add-both, cancel, sub-is}
+use Rattle.field64.proofs.Modular.{modular, add-both, cancel, sub-add, sub-is}
 use Rattle.rows.specs.Rows.{Below}
 use Rattle.rows.proofs.Elements.{below-take, below-drop}
 use Rattle.flp.specs.Tests.{pairs, weighed, weigh, testOf}
@@ -31,18 +31,17 @@ both p u v w z e f g h =
     swap : (u v w z : ℕ) → u + v + (w + z) ≡ (u + w) + (v + z)
     swap u v w z = omega arith
 
--- p less x is as good as any y that undoes x
-less-is : (p x y : ℕ) → 0 < p → y + x ≡ p + p → (p - x % p) % p ≡ y % p
-less-is p x y s e =
-    let l : x % p < p = mod-lt x s in
-    let f : p - x % p + x % p ≡ p = omega arith in
-    cancel p s (p - x % p) y x (sym (add-mod-mod (p - x % p) x p) ∙ ap (λ (n : ℕ). n % p) f ∙ sym (ap (λ (n : ℕ). n % p) e ∙ add-mod-right p p))
+-- p less x undoes x
+pub less-undoes : (p x : ℕ) → x ≤ p → (p - x + x) % p ≡ 0
+less-undoes p x h =
+    let f : p - x + x ≡ p = omega arith in
+    ap (λ (n : ℕ). n % p) f ∙ mod-self p
 
 -- of one coordinate, by its pair
 abbrev one : (a na : ℕ) → List ℕ
 one a na = a ∷ 0 ∷ 0 ∷ na ∷ []
 
-module _ (p a na : ℕ) (h : a < p) (e : na ≡ p - a) where
+module _ (p a na : ℕ) (h : a < p) (e : (na + a) % p ≡ 0) where
   one-undoes : (q : ℕ) → q < 4 → (getD (one a na) q 0 + weighed p q a) % p ≡ 0
   unfolding weighed
   one-undoes zero g =
@@ -50,16 +49,15 @@ module _ (p a na : ℕ) (h : a < p) (e : na ≡ p - a) where
       simp modular (ap (λ (n : ℕ). n % p) f ∙ mod-self p)
   one-undoes (suc zero) g = zero-mod p
   one-undoes (suc (suc zero)) g = zero-mod p
-  one-undoes (suc (suc (suc zero))) g =
-      let f : na + a ≡ p = omega arith in
-      ap (λ (n : ℕ). n % p) f ∙ mod-self p
+  one-undoes (suc (suc (suc zero))) g = e
   one-undoes (suc (suc (suc (suc q)))) g = absurd (omega arith)
 
-module _ (p a b na nb pp pm mp mm : ℕ) (ha : a < p) (hb : b < p) where
-  abbrev entries : List ℕ
-  entries = pp ∷ b ∷ b ∷ mp ∷ a ∷ 0 ∷ 0 ∷ na ∷ a ∷ 0 ∷ 0 ∷ na ∷ pm ∷ nb ∷ nb ∷ mm ∷ []
+abbrev entries : (a b na nb pp pm mp mm : ℕ) → List ℕ
+entries a b na nb pp pm mp mm = pp ∷ b ∷ b ∷ mp ∷ a ∷ 0 ∷ 0 ∷ na ∷ a ∷ 0 ∷ 0 ∷ na ∷ pm ∷ nb ∷ nb ∷ mm ∷ []
 
-  module _ (ea : na ≡ p - a) (eb : nb ≡ p - b) (epp : pp ≡ addMod p a b) (epm : pm ≡ subMod p a b) (emp : mp ≡ p - pm) (emm : mm ≡ p - pp) where
+module _ (p a b na nb pp pm mp mm : ℕ) (ha : a < p) (hb : b < p) where
+  -- the sum and the difference, and the negatives of a, b and both
+  module _ (ea : (na + a) % p ≡ 0) (eb : (nb + b) % p ≡ 0) (sum : pp % p ≡ (a + b) % p) (epm : (pm + b) % p ≡ a % p) (emp : (mp + pm) % p ≡ 0) (emm : (mm + pp) % p ≡ 0) where
     positive : 0 < p
     positive = omega arith
 
@@ -69,20 +67,20 @@ module _ (p a b na nb pp pm mp mm : ℕ) (ha : a < p) (hb : b < p) where
     right : (x : ℕ) → x % p ≡ (x + 0) % p
     right x = ap (λ (n : ℕ). n % p) (omega arith)
 
-    sum : pp % p ≡ (a + b) % p
-    sum = rw epp (mod-mod (a + b) p)
+    -- x and y are one where both with z are
+    same : (x y z w : ℕ) → y + z ≡ w → (x + z) % p ≡ w % p → x % p ≡ y % p
+    same x y z w e f = cancel p positive x y z (f ∙ ap (λ (n : ℕ). n % p) (sym e))
 
     difference : pm % p ≡ (a + nb) % p
-    difference = rw (epm, eb) (mod-mod (a + (p - b)) p)
+    difference = same pm (a + nb) b (a + (nb + b)) (omega arith) (epm ∙ right a ∙ sym (add-both p a a (nb + b) 0 refl (eb ∙ sym (zero-mod p))))
 
-    -- the negatives of both
     less-sum : mm % p ≡ (na + nb) % p
-    less-sum = rw (emm, epp) (less-is p (a + b) (na + nb) positive (omega arith))
+    less-sum = same mm (na + nb) (a + b) ((na + a) + (nb + b)) (omega arith) (add-both p mm mm (a + b) pp refl (sym sum) ∙ emm ∙ sym (zero-mod p) ∙ sym (add-both p (na + a) 0 (nb + b) 0 (ea ∙ sym (zero-mod p)) (eb ∙ sym (zero-mod p))))
 
     less-difference : mp % p ≡ (na + b) % p
-    less-difference = rw (emp, epm) (less-is p (a + (p - b)) (na + b) positive (omega arith))
+    less-difference = same mp (na + b) pm (na + (pm + b)) (omega arith) (emp ∙ sym ea ∙ sym (add-both p na na (pm + b) a refl epm))
 
-    entry : (k : ℕ) → k < 16 → getD entries k 0 % p ≡ (getD (one a na) (k % 4) 0 + getD (one b nb) (k / 4) 0) % p
+    entry : (k : ℕ) → k < 16 → getD (entries a b na nb pp pm mp mm) k 0 % p ≡ (getD (one a na) (k % 4) 0 + getD (one b nb) (k / 4) 0) % p
     entry zero h = sum
     entry (suc zero) h = left b
     entry (suc (suc zero)) h = left b
@@ -101,8 +99,16 @@ module _ (p a b na nb pp pm mp mm : ℕ) (ha : a < p) (hb : b < p) where
     entry (suc (suc (suc (suc (suc (suc (suc (suc (suc (suc (suc (suc (suc (suc (suc zero))))))))))))))) h = less-sum
     entry (suc (suc (suc (suc (suc (suc (suc (suc (suc (suc (suc (suc (suc (suc (suc (suc k)))))))))))))))) h = absurd (omega arith)
 
-    pub table-law : Undoes p a b entries
+    pub table-law : Undoes p a b (entries a b na nb pp pm mp mm)
     table-law k h = both p (getD (one a na) (k % 4) 0) (getD (one b nb) (k / 4) 0) (weighed p (k % 4) a) (weighed p (k / 4) b) _ (one-undoes p a na ha ea (k % 4) (omega arith)) (one-undoes p b nb hb eb (k / 4) (omega arith)) (entry k h)
+
+-- p less a number being its negative
+pub less-table-law : (p a b na nb pp pm mp mm : ℕ) → a < p → b < p → na ≡ p - a → nb ≡ p - b → pp ≡ addMod p a b → pm ≡ subMod p a b → mp ≡ p - pm → mm ≡ p - pp → Undoes p a b (entries a b na nb pp pm mp mm)
+less-table-law p a b na nb pp pm mp mm ha hb ea eb epp epm emp emm =
+    let positive : 0 < p = omega arith in
+    let lp : pp ≤ p = rw epp (le-of-lt (mod-lt (a + b) positive)) in
+    let lm : pm ≤ p = rw epm (le-of-lt (mod-lt (a + (p - b)) positive)) in
+    table-law p a b na nb pp pm mp mm ha hb (rw ea (less-undoes p a (le-of-lt ha))) (rw eb (less-undoes p b (le-of-lt hb))) (rw epp (mod-mod (a + b) p)) (rw epm (sub-add p positive a b (le-of-lt hb))) (rw emp (less-undoes p pm lm)) (rw emm (less-undoes p pp lp))
 
 -- ---- a byte
 
@@ -203,11 +209,11 @@ pub step-carries : (k h h′ : ℕ) → h ≤ 2 * k → h′ ≤ h + 2 → h′ 
 step-carries k h h′ e f = omega arith
 
 -- byte k of a test, all being the entries of all its bytes
-pub bytes-next : (t bytes : List ℕ) (k all s s′ : ℕ) → k < length bytes → s + entriesOf t (32 * k) (drop k bytes) ≡ all → s′ ≡ s + entriesAt t (32 * k) (getD bytes k 0) → s′ + entriesOf t (32 * (k + 1)) (drop (k + 1) bytes) ≡ all
-bytes-next t bytes k all s s′ h e f =
+pub entries-step : (t bytes : List ℕ) (k : ℕ) → k < length bytes → entriesOf t (32 * k) (drop k bytes) ≡ entriesAt t (32 * k) (getD bytes k 0) + entriesOf t (32 * (k + 1)) (drop (k + 1) bytes)
+entries-step t bytes k h =
     let d : drop k bytes ≡ getD bytes k 0 ∷ drop (k + 1) bytes = rw (add-one, drop-cons bytes k 0) in
-    let on : 32 * (k + 1) ≡ 32 * k + 32 = omega arith in
-    ap (λ (n : ℕ). s′ + entriesOf t n (drop (k + 1) bytes)) on ∙ rw f (joined s (entriesAt t (32 * k) (getD bytes k 0)) (entriesOf t (32 * k + 32) (drop (k + 1) bytes))) ∙ ap (λ (xs : List ℕ). s + entriesOf t (32 * k) xs) (sym d) ∙ e
-  where
-    joined : (s a r : ℕ) → s + a + r ≡ s + (a + r)
-    joined s a r = omega arith
+    let on : 32 * k + 32 ≡ 32 * (k + 1) = omega arith in
+    ap (entriesOf t (32 * k)) d ∙ ap (λ (n : ℕ). entriesAt t (32 * k) (getD bytes k 0) + entriesOf t n (drop (k + 1) bytes)) on
+
+pub bytes-next : (t bytes : List ℕ) (k all s s′ : ℕ) → k < length bytes → s + entriesOf t (32 * k) (drop k bytes) ≡ all → s′ ≡ s + entriesAt t (32 * k) (getD bytes k 0) → s′ + entriesOf t (32 * (k + 1)) (drop (k + 1) bytes) ≡ all
+bytes-next t bytes k all s s′ h e f = omega (arith, entries-step t bytes k h)

@@ -7,7 +7,8 @@ use lib.ListN.{length}
 use borrow.Author.Needs.{needs}
 use Rattle.field128.proofs.Pairs.{elements-length}
 use Rattle.groups.proofs.Swapped.{same-room}
-use Rattle.limbs.proofs.Summed.{zeros-long, many-fit, few-fit}
+use Rattle.limbs.proofs.Summed.{zeros-long}
+use Rattle.columns128.proofs.Sums.{many-fit, few-fit}
 use Rattle.columns128.proofs.run_block.Statement.{statement}
 use Rattle.columns128.proofs.run_block.Tie as tie
 

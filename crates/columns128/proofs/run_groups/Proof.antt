@@ -8,17 +8,17 @@ use lib.ListN.{length, take, drop}
 use Rattle.field128.specs.Field128.{elementsOf}
 use Rattle.field128.proofs.Pairs.{elements-length}
 use Rattle.groups.specs.Groups.{groupFrom}
-use Rattle.groups.proofs.Swapped.{Fits, group-fits, row-long, room-less, same-room}
-use Rattle.limbs.specs.Limbs.{limbs}
+use Rattle.groups.proofs.Swapped.{Fits, group-fits, row-long, same-room}
+use Rattle.limbs.specs.Limbs.{limbs, modulusFor}
 use Rattle.limbs.proofs.Words.{length-limbs}
 use Rattle.limbs.proofs.Summed.{Summed, summed-start, summed-below, summed-next, summed-end}
-use Rattle.columns128.proofs.Sums.{part-long, words-inside, part-limbs}
+use Rattle.columns128.proofs.Sums.{part-long, words-inside, part-limbs, positive, below-by, added-by, tests-by, width-most, width-less}
 use Rattle.columns128.proofs.run_groups.Statement.{statement}
 use Rattle.columns128.proofs.run_groups.Tie as tie
 
 abbrev Inv-loop : tie.InvT-loop
 Inv-loop gradient per width stream row₀ spare₀ low₀ middle₀ high₀ j₀ row spare low middle high j =
-    (j ≤ per) × ((length row ≡ length row₀) × (length spare ≡ length spare₀)) × (Summed per stream (limbs 0 (elementsOf gradient)) (length low₀) j low × (Summed per stream (limbs 1 (elementsOf gradient)) (length low₀) j middle × Summed per stream (limbs 2 (elementsOf gradient)) (length low₀) j high))
+    (j ≤ per) × ((length row ≡ length row₀) × (length spare ≡ length spare₀)) × (Summed (modulusFor (length low₀)) per stream (limbs 0 (elementsOf gradient)) (length low₀) j low × (Summed (modulusFor (length low₀)) per stream (limbs 1 (elementsOf gradient)) (length low₀) j middle × Summed (modulusFor (length low₀)) per stream (limbs 2 (elementsOf gradient)) (length low₀) j high))
 
 abbrev μ-loop : tie.MeasureT-loop
 μ-loop gradient per width stream row₀ spare₀ low₀ middle₀ high₀ j₀ row spare low middle high j = per - j
@@ -61,10 +61,10 @@ loop-holds c =
       omega arith,
       (refl, refl),
       (
-        summed-start (s .args .per) (s .args .stream .now) (limbs 0 xs) _ (s .args .low .now) _ T (z .ensures),
+        summed-start _ (s .args .per) (s .args .stream .now) (limbs 0 xs) _ (s .args .low .now) _ T (z .ensures),
         (
-          summed-start (s .args .per) (s .args .stream .now) (limbs 1 xs) _ (s .args .middle .now) _ (s .pre .1 .1 .0 ∙ T) (c .before .before .before .before .before .before .zero-row2 .ensures),
-          summed-start (s .args .per) (s .args .stream .now) (limbs 2 xs) _ (s .args .high .now) _ (s .pre .1 .1 .1 ∙ T) (c .before .before .zero-row3 .ensures),
+          summed-start _ (s .args .per) (s .args .stream .now) (limbs 1 xs) _ (s .args .middle .now) _ (s .pre .1 .1 .0 ∙ T) (c .before .before .before .before .before .before .zero-row2 .ensures),
+          summed-start _ (s .args .per) (s .args .stream .now) (limbs 2 xs) _ (s .args .high .now) _ (s .pre .1 .1 .1 ∙ T) (c .before .before .zero-row3 .ensures),
         ),
       ),
     )
@@ -72,7 +72,7 @@ loop-holds c =
 group-from-requires : tie.Need-group-from-requires Inv-loop μ-loop
 group-from-requires c κs =
     let s = c .before .before .before .before .before .before .before .before .before .before .before .before .before .before .before .before .before .before .before .before .before in
-    (c .loop-test .taken, (omega (arith, s .pre .1 .0 .0 .1), s .pre .0 .1 .1))
+    (c .loop-test .taken, (omega (arith, s .pre .1 .0 .0 .1, width-most (length (s .args .low .now))), s .pre .0 .1 .1))
 
 mul-first : tie.Need-mul-first Inv-loop μ-loop
 mul-first c = record { fits = omega (arith, small (c .before)) }
@@ -119,17 +119,18 @@ add-limbs-requires c κs =
     let long = part-long (r .first) (r .last) words (fits g .in-order) (fits g .coordinates) in
     let sums = l .loop .inv .2 in
     let T = sums .0 .0 ∙ z .kept .0 in
-    let spare = room-less _ _ (r .end - l .loop .j) (s .args .width) _ _ T (l .loop .inv .1 .1) (fits g .few) (s .pre .1 .0 .1 .1) in (
-      (same-room _ _ (s .args .per) _ T (s .pre .0 .0), (omega (arith, fits g), omega (arith, fits g .few, s .pre .1 .0 .0 .1))),
+    let T₀ = length (z .last .0) in
+    let m = ap modulusFor (sym (sums .0 .0)) in (
+      (same-room _ _ (s .args .per) _ T (s .pre .0 .0), (omega (arith, fits g), width-less _ _ (r .end - l .loop .j) (s .args .width) T (fits g .few) (s .pre .1 .0 .0 .1))),
       (
         row-long (r .last - r .first) (l .loop .row) (room g) ∙ sym long,
         (
-          (rw long (fits g .few-coordinates), spare),
+          (rw long (fits g .few-coordinates), omega (arith, l .loop .inv .1 .1, s .pre .1 .0 .1 .1)),
           (
             (sums .1 .0 .0 ∙ sym (sums .0 .0), sums .1 .1 .0 ∙ sym (sums .0 .0)),
             (
-              summed-below (s .args .per) (s .args .stream .now) (limbs 0 xs) _ (l .loop .j) (l .loop .low) (sums .0),
-              (summed-below (s .args .per) (s .args .stream .now) (limbs 1 xs) _ (l .loop .j) (l .loop .middle) (sums .1 .0), summed-below (s .args .per) (s .args .stream .now) (limbs 2 xs) _ (l .loop .j) (l .loop .high) (sums .1 .1)),
+              below-by _ _ (l .loop .low) m (summed-below _ (s .args .per) (s .args .stream .now) (limbs 0 xs) (positive T₀) _ (l .loop .j) (l .loop .low) (sums .0)),
+              (below-by _ _ (l .loop .middle) m (summed-below _ (s .args .per) (s .args .stream .now) (limbs 1 xs) (positive T₀) _ (l .loop .j) (l .loop .middle) (sums .1 .0)), below-by _ _ (l .loop .high) m (summed-below _ (s .args .per) (s .args .stream .now) (limbs 2 xs) (positive T₀) _ (l .loop .j) (l .loop .high) (sums .1 .1))),
             ),
           ),
         ),
@@ -149,14 +150,16 @@ loop-again c =
     let words = s .args .gradient .now in
     let xs = elementsOf words in
     let sums = l .loop .inv .2 in
-    let on = g .before .loop-test .taken in (
+    let on = g .before .loop-test .taken in
+    let T₀ = length (l .before .before .before .before .before .before .before .before .before .before .before .zero-row .last .0) in
+    let m = ap modulusFor (sums .0 .0) in (
       fits g .inside,
       (length-front (l .loop .row) (a .last .1 .1 .1 .1 .1 .0) (r .last - r .first - 0) (a .kept .1 .1 .1 .1 .1 .0) ∙ l .loop .inv .1 .0, a .kept .1 .1 .1 .1 .1 .1 .0 ∙ l .loop .inv .1 .1),
       (
-        summed-next (s .args .per) (s .args .stream .now) (limbs 0 xs) _ (l .loop .j) (r .end) _ (l .loop .low) _ (fits g .goes-on) (fits g .inside) (part-limbs 0 (l .loop .j) (s .args .width) (s .args .per) words r on (taken g)) (a .kept .1 .1 .1 .1 .1 .1 .1 .0) (a .ensures .0) (sums .0),
+        summed-next _ (s .args .per) (s .args .stream .now) (limbs 0 xs) (positive T₀) _ (l .loop .j) (r .end) _ (l .loop .low) _ (fits g .goes-on) (fits g .inside) (part-limbs 0 (l .loop .j) (s .args .width) (s .args .per) words r on (taken g)) (a .kept .1 .1 .1 .1 .1 .1 .1 .0) (added-by _ _ (s .args .per) (l .loop .j) (r .end - l .loop .j) _ (s .args .stream .now) (l .loop .low) _ m (a .ensures .0)) (sums .0),
         (
-          summed-next (s .args .per) (s .args .stream .now) (limbs 1 xs) _ (l .loop .j) (r .end) _ (l .loop .middle) _ (fits g .goes-on) (fits g .inside) (part-limbs 1 (l .loop .j) (s .args .width) (s .args .per) words r on (taken g)) (a .kept .1 .1 .1 .1 .1 .1 .1 .1 .0) (a .ensures .1 .0) (sums .1 .0),
-          summed-next (s .args .per) (s .args .stream .now) (limbs 2 xs) _ (l .loop .j) (r .end) _ (l .loop .high) _ (fits g .goes-on) (fits g .inside) (part-limbs 2 (l .loop .j) (s .args .width) (s .args .per) words r on (taken g)) (a .kept .1 .1 .1 .1 .1 .1 .1 .1 .1 .0) (a .ensures .1 .1) (sums .1 .1),
+          summed-next _ (s .args .per) (s .args .stream .now) (limbs 1 xs) (positive T₀) _ (l .loop .j) (r .end) _ (l .loop .middle) _ (fits g .goes-on) (fits g .inside) (part-limbs 1 (l .loop .j) (s .args .width) (s .args .per) words r on (taken g)) (a .kept .1 .1 .1 .1 .1 .1 .1 .1 .0) (added-by _ _ (s .args .per) (l .loop .j) (r .end - l .loop .j) _ (s .args .stream .now) (l .loop .middle) _ m (a .ensures .1 .0)) (sums .1 .0),
+          summed-next _ (s .args .per) (s .args .stream .now) (limbs 2 xs) (positive T₀) _ (l .loop .j) (r .end) _ (l .loop .high) _ (fits g .goes-on) (fits g .inside) (part-limbs 2 (l .loop .j) (s .args .width) (s .args .per) words r on (taken g)) (a .kept .1 .1 .1 .1 .1 .1 .1 .1 .1 .0) (added-by _ _ (s .args .per) (l .loop .j) (r .end - l .loop .j) _ (s .args .stream .now) (l .loop .high) _ m (a .ensures .1 .1)) (sums .1 .1),
         ),
       ),
     )
@@ -185,9 +188,10 @@ returns c =
     let xs = elementsOf words in
     let sums = l .loop .inv .2 in
     let out = c .loop-test .left in
+    let m = ap modulusFor n in
     let few : (k : ℕ) → length (limbs k xs) ≤ 4 * s .args .per = λ k. rw (length-limbs k xs) (s .pre .0 .1 .0) in (
-      summed-end (s .args .per) (s .args .stream .now) (limbs 0 xs) _ _ (l .loop .j) (l .loop .low) n out (few 0) (sums .0),
-      (summed-end (s .args .per) (s .args .stream .now) (limbs 1 xs) _ _ (l .loop .j) (l .loop .middle) n out (few 1) (sums .1 .0), summed-end (s .args .per) (s .args .stream .now) (limbs 2 xs) _ _ (l .loop .j) (l .loop .high) n out (few 2) (sums .1 .1)),
+      tests-by _ _ (s .args .per) _ (s .args .stream .now) (limbs 0 xs) _ m (summed-end _ (s .args .per) (s .args .stream .now) (limbs 0 xs) _ _ (l .loop .j) (l .loop .low) n out (few 0) (sums .0)),
+      (tests-by _ _ (s .args .per) _ (s .args .stream .now) (limbs 1 xs) _ m (summed-end _ (s .args .per) (s .args .stream .now) (limbs 1 xs) _ _ (l .loop .j) (l .loop .middle) n out (few 1) (sums .1 .0)), tests-by _ _ (s .args .per) _ (s .args .stream .now) (limbs 2 xs) _ m (summed-end _ (s .args .per) (s .args .stream .now) (limbs 2 xs) _ _ (l .loop .j) (l .loop .high) n out (few 2) (sums .1 .1))),
     )
 
 pub run-groups-spec : {M : Type 1} → statement M

@@ -1,11 +1,13 @@
 -- `columns128::run_limbs` meets its contract. Assumes nothing.
-use mathlib.Core.Path.{ap, _∙_}
-use lib.Dec.{lit<}
+use mathlib.Core.Path.{sym, ap, _∙_}
+use lib.ListN.{length}
+use lib.Dec.{leb}
 use borrow.Author.Needs.{needs}
-use Rattle.field64.specs.Field.{p64}
 use Rattle.field128.specs.Field128.{elementsOf, wordsOf}
 use Rattle.flp.proofs.Tests.{results-below}
-use Rattle.columns128.proofs.Sums.{limbs-joined}
+use Rattle.limbs.specs.Limbs.{limbs, modulusFor}
+use Rattle.limbs.proofs.Joined.{enough}
+use Rattle.columns128.proofs.Sums.{positive, below-by, limbs-joined}
 use Rattle.columns128.proofs.run_limbs.Statement.{statement}
 use Rattle.columns128.proofs.run_limbs.Tie as tie
 
@@ -16,11 +18,14 @@ join-rows-requires : tie.Need-join-rows-requires
 join-rows-requires c κs =
     let s = c .before .before .before .before .before .before .before .before .before .before .before .before .before .before .before .before .before .before .before .before .before .before .before .before .before .before .before .before in
     let r = c .before .before .before .before .before .before .before .before .before .before .before .before .before .before .run-groups in
-    let same = s .pre .1 .1 .0 in (
+    let same = s .pre .1 .1 .0 in
+    let T = length (s .args .low .now) in
+    let xs = elementsOf (s .args .gradient .now) in
+    let m = ap modulusFor (sym (r .kept .1 .1 .1 .1 .1 .1 .0)) in (
       (s .pre .1 .1 .1 .0, (r .kept .1 .1 .1 .1 .1 .1 .0 ∙ same .0, (r .kept .1 .1 .1 .1 .1 .1 .1 .0 ∙ same .1 .0, r .kept .1 .1 .1 .1 .1 .1 .1 .1 .0 ∙ same .1 .1))),
       (
-        results-below p64 (lit< tt) (s .args .per) _ (s .args .stream .now) _ _ (r .ensures .0),
-        (results-below p64 (lit< tt) (s .args .per) _ (s .args .stream .now) _ _ (r .ensures .1 .0), results-below p64 (lit< tt) (s .args .per) _ (s .args .stream .now) _ _ (r .ensures .1 .1)),
+        below-by _ _ (r .last .1 .1 .1 .1 .1 .1 .0) m (results-below _ (positive T) (s .args .per) T (s .args .stream .now) (limbs 0 xs) (r .last .1 .1 .1 .1 .1 .1 .0) (r .ensures .0)),
+        (below-by _ _ (r .last .1 .1 .1 .1 .1 .1 .1 .0) m (results-below _ (positive T) (s .args .per) T (s .args .stream .now) (limbs 1 xs) (r .last .1 .1 .1 .1 .1 .1 .1 .0) (r .ensures .1 .0)), below-by _ _ (r .last .1 .1 .1 .1 .1 .1 .1 .1 .0) m (results-below _ (positive T) (s .args .per) T (s .args .stream .now) (limbs 2 xs) (r .last .1 .1 .1 .1 .1 .1 .1 .1 .0) (r .ensures .1 .1))),
       ),
     )
 
@@ -47,7 +52,7 @@ returns c =
     let s = c .before .before .before .before .before .before .before .before .before .before .before .before .before .before .before .before .before .before .before .before .before .before .before .before .before .before .before .before .before .before .before in
     let r = c .before .before .before .before .before .before .before .before .before .before .before .before .before .before .before .before .before .run-groups in
     let j = c .before .before .join-rows in
-    j .ensures ∙ ap wordsOf (limbs-joined (s .args .per) _ _ (s .args .stream .now) (elementsOf (s .args .gradient .now)) _ _ _ (s .pre .1 .1 .0 .0) (s .pre .1 .1 .1 .1) (s .pre .0 .1 .0) (s .pre .0 .1 .1) (r .ensures .0) (r .ensures .1 .0) (r .ensures .1 .1))
+    j .ensures ∙ ap wordsOf (limbs-joined _ _ (ap modulusFor (r .kept .1 .1 .1 .1 .1 .1 .0)) (enough (leb (length (s .args .low .now)) 6)) (s .args .per) _ _ (s .args .stream .now) (elementsOf (s .args .gradient .now)) _ _ _ (s .pre .1 .1 .0 .0) (s .pre .1 .1 .1 .1) (s .pre .0 .1 .0) (s .pre .0 .1 .1) (r .ensures .0) (r .ensures .1 .0) (r .ensures .1 .1))
 
 pub run-limbs-spec : {M : Type 1} → statement M
 run-limbs-spec =

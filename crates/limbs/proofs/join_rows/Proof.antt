@@ -4,19 +4,18 @@ use Prim.Native.Nat.{_-_, _*_, _^_, _<_}
 use native.Mathlib.Omega.{arith}
 use borrow.Author.Needs.{needs}
 use lib.ListN.{length}
-use Rattle.field64.specs.Field.{p64}
 use Rattle.rows.proofs.Walk.{Walking}
 use Rattle.field128.specs.Field128.{elementsOf, wordsOf}
-use Rattle.limbs.specs.Limbs.{joinedRows}
+use Rattle.limbs.specs.Limbs.{modulusOf, joinedRows}
 use Rattle.limbs.proofs.Words.{rows-inside, results-below, joined-next, joined-end}
 use Rattle.limbs.proofs.join_rows.Statement.{statement}
 use Rattle.limbs.proofs.join_rows.Tie as tie
 
 abbrev Inv-loop : tie.InvT-loop
-Inv-loop low middle high results₀ i₀ results i = Walking (wordsOf (joinedRows low middle high)) results₀ results (2 * i)
+Inv-loop reduced low middle high results₀ i₀ results i = Walking (wordsOf (joinedRows (modulusOf reduced) low middle high)) results₀ results (2 * i)
 
 abbrev μ-loop : tie.MeasureT-loop
-μ-loop low middle high results₀ i₀ results i = length low - i
+μ-loop reduced low middle high results₀ i₀ results i = length low - i
 
 loop-holds : tie.Need-loop-holds Inv-loop μ-loop
 loop-holds c = (omega arith, refl, refl)
@@ -25,7 +24,7 @@ inside : (t : tie.In-loop Inv-loop μ-loop) → (t .before .loop .i < length (t 
 inside t =
     let l = t .before in
     let s = l .before .before .before .before .before in
-    rows-inside (s .args .low .now) (s .args .middle .now) (s .args .high .now) (s .args .results .now) (l .loop .results) (l .loop .i) (s .pre .0 .0) (s .pre .0 .1) (l .loop .inv) (t .loop-test .taken)
+    rows-inside (modulusOf (s .args .reduced)) (s .args .low .now) (s .args .middle .now) (s .args .high .now) (s .args .results .now) (l .loop .results) (l .loop .i) (s .pre .0 .0) (s .pre .0 .1) (l .loop .inv) (t .loop-test .taken)
 
 low-below : (c : tie.After-join Inv-loop μ-loop) → c .join .result .low < 2 ^ 64
 low-below c = search needs
@@ -53,7 +52,7 @@ join-requires c κs =
     let t = c .before .before .before .before in
     let l = t .before in
     let s = l .before .before .before .before .before in
-    results-below (s .args .low .now) (s .args .middle .now) (s .args .high .now) (s .args .results .now) (l .loop .results) (l .loop .i) (s .pre .0 .0) (s .pre .0 .1) (l .loop .inv) (t .loop-test .taken) p64 (s .pre .1)
+    results-below (modulusOf (s .args .reduced)) (s .args .low .now) (s .args .middle .now) (s .args .high .now) (s .args .results .now) (l .loop .results) (l .loop .i) (s .pre .0 .0) (s .pre .0 .1) (l .loop .inv) (t .loop-test .taken) (s .pre .1)
 
 store-requires : tie.Need-store-requires Inv-loop μ-loop
 store-requires c κs = inside (c .before .before .before .before .before) .1 .1
@@ -71,7 +70,7 @@ loop-again c =
     let t = j .before .before .before .before .before in
     let l = t .before in
     let s = l .before .before .before .before .before in
-    joined-next (s .args .low .now) (s .args .middle .now) (s .args .high .now) (s .args .results .now) (l .loop .results) (l .loop .i) (s .pre .0 .0) (s .pre .0 .1) (l .loop .inv) (t .loop-test .taken) (j .join .result .low) (j .join .result .high) _ (low-below j) (j .join .ensures) (w .store .ensures)
+    joined-next (modulusOf (s .args .reduced)) (s .args .low .now) (s .args .middle .now) (s .args .high .now) (s .args .results .now) (l .loop .results) (l .loop .i) (s .pre .0 .0) (s .pre .0 .1) (l .loop .inv) (t .loop-test .taken) (j .join .result .low) (j .join .result .high) _ (low-below j) (j .join .ensures) (w .store .ensures)
 
 same-length : tie.Need-same-length Inv-loop μ-loop
 same-length c = c .before .loop .inv .1
@@ -80,7 +79,7 @@ returns : tie.Need-returns Inv-loop μ-loop
 returns c =
     let l = c .before in
     let s = l .before .before .before .before .before in
-    joined-end (s .args .low .now) (s .args .middle .now) (s .args .high .now) (s .args .results .now) (l .loop .results) (l .loop .i) (s .pre .0 .0) (s .pre .0 .1) (l .loop .inv) (c .loop-test .left)
+    joined-end (modulusOf (s .args .reduced)) (s .args .low .now) (s .args .middle .now) (s .args .high .now) (s .args .results .now) (l .loop .results) (l .loop .i) (s .pre .0 .0) (s .pre .0 .1) (l .loop .inv) (c .loop-test .left)
 
 pub join-rows-spec : {M : Type 1} → statement M
 join-rows-spec =

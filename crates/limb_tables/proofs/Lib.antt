@@ -1,0 +1,2 @@
+-- `Entries` of the entries of tables, modulo any m.
+mod Entries

@@ -1,0 +1,2 @@
+-- The tables of limbs.
+pub mod LimbTables
