@@ -13,9 +13,9 @@ use Rattle.field128.specs.Field128.{p128, elementsOf}
 use Rattle.field128.proofs.Pairs.{elements-length, elements-take, elements-drop}
 use Rattle.flp.specs.Tests.{testsOf}
 use Rattle.groups.specs.declared.Group.{Group}
-use Rattle.groups.specs.Groups.{addGroup, groupFrom}
-use Rattle.groups.proofs.Swapped.{group-cut, part-long as elements-long}
-use Rattle.limbs.specs.Limbs.{limb, limbs, modulusFor, widthFor, joinedRows}
+use Rattle.groups.specs.Groups.{addGroup, roomFor, groupFrom}
+use Rattle.groups.proofs.Swapped.{group-cut, room-few, part-long as elements-long}
+use Rattle.limbs.specs.Limbs.{limb, limbs, modulusFor, widthFor, spareFor, joinedRows}
 use Rattle.limbs.proofs.Summed.{map-cut}
 use Rattle.limbs.proofs.Joined.{enough, tests-joined}
 
@@ -39,14 +39,14 @@ part-limbs k j width per words g h e = map-cut (limb k) (4 * j) (4 * g .end) (el
 
 -- ---- the modulus of the sums, and how many bytes are taken at a time
 
-pub few-modulus : (T : ℕ) → T ≤ 6 → modulusFor T ≡ p64
-few-modulus T h = rw (le-leb T 6 h)
+pub few-modulus : (T : ℕ) → T ≤ 2 → modulusFor T ≡ p64
+few-modulus T h = rw (le-leb T 2 h)
 
-pub many-modulus : (T : ℕ) → 6 < T → modulusFor T ≡ 2 ^ 64
-many-modulus T h = rw (lt-leb T 6 h)
+pub many-modulus : (T : ℕ) → 2 < T → modulusFor T ≡ 2 ^ 64
+many-modulus T h = rw (lt-leb T 2 h)
 
 pub positive : (T : ℕ) → 0 < modulusFor T
-positive T = omega (arith, enough (leb T 6))
+positive T = omega (arith, enough (leb T 2))
 
 pub below-by : (m m′ : ℕ) (d : List ℕ) → m ≡ m′ → Below m d → Below m′ d
 below-by m m′ d e b = subst (λ (n : ℕ). Below n d) e b
@@ -57,34 +57,47 @@ added-by m m′ per j n xs s d d′ e f = f ∙ ap (λ (k : ℕ). addGroup k per
 pub tests-by : (m m′ per T : ℕ) (s xs d : List ℕ) → m ≡ m′ → d ≡ testsOf m per T s xs → d ≡ testsOf m′ per T s xs
 tests-by m m′ per T s xs d e f = f ∙ ap (λ (k : ℕ). testsOf k per T s xs) e
 
-few-width : (T : ℕ) → T ≤ 6 → widthFor T ≡ 64
-few-width T h = rw (le-leb T 6 h)
+few-width : (T : ℕ) → T ≤ 2 → widthFor T ≡ 64
+few-width T h = rw (le-leb T 2 h)
 
-many-width : (T : ℕ) → 6 < T → widthFor T ≡ 8
-many-width T h = rw (lt-leb T 6 h)
+many-width : (T : ℕ) → 2 < T → widthFor T ≡ 8
+many-width T h = rw (lt-leb T 2 h)
 
 pub width-most : (T : ℕ) → widthFor T ≤ 64
-width-most T = go (leb T 6)
+width-most T = go (leb T 2)
   where
     go : (t : Bool) → cond t 64 8 ≤ 64
     go true = omega arith
     go false = omega arith
 
-pub width-many : (T n : ℕ) → 6 < T → n ≤ widthFor T → n ≤ 8
-width-many T n h l = omega (arith, many-width T h)
+few-spare : (T : ℕ) → T ≤ 2 → spareFor T ≡ 256
+few-spare T h = rw (le-leb T 2 h)
 
-pub width-less : (T T′ n m : ℕ) → T′ ≡ T → n ≤ m → m ≤ widthFor T → n ≤ widthFor T′
-width-less T T′ n m e h l = rw e (omega arith)
+many-spare : (T : ℕ) → 2 < T → spareFor T ≡ 768
+many-spare T h = rw (lt-leb T 2 h)
 
--- a row of 256 words for the limbs, and one of 768 for weights or tables
-abbrev Room : (tests width : ℕ) → Type 0
-Room tests width = ((0 < width) × (width ≤ widthFor tests)) × ((4 * width ≤ 256) × (768 ≤ 768))
+-- that is room for the weights of so many bytes, or for all tables
+pub weights-fit : (T n l : ℕ) → T ≤ 2 → n ≤ widthFor T → spareFor T ≤ l → (n ≤ 64) × (roomFor T n ≤ l)
+weights-fit T n l h w r =
+    let few : T ≤ 6 = omega arith in
+    (omega (arith, few-width T h), omega (arith, few-width T h, few-spare T h, room-few T n few))
 
-pub many-fit : (tests width : ℕ) → 6 < tests → width ≡ 8 → Room tests width
-many-fit tests width h e = rw e ((omega arith, omega (arith, many-width tests h)), (omega arith, omega arith))
+pub tables-fit : (T n l : ℕ) → 2 < T → n ≤ widthFor T → spareFor T ≤ l → (n ≤ 8) × (768 ≤ l)
+tables-fit T n l h w r = (omega (arith, many-width T h), omega (arith, many-spare T h))
 
-pub few-fit : (tests width : ℕ) → tests ≤ 6 → width ≡ 64 → Room tests width
-few-fit tests width h e = rw e ((omega arith, omega (arith, few-width tests h)), (omega arith, omega arith))
+-- of another number that is the same
+pub fits-by : (T T′ n m l l′ : ℕ) → T′ ≡ T → l′ ≡ l → n ≤ m → m ≤ widthFor T → spareFor T ≤ l → (n ≤ widthFor T′) × (spareFor T′ ≤ l′)
+fits-by T T′ n m l l′ e f h w r = rw (e, f) (omega arith, r)
+
+-- a row for the limbs, and one for weights or tables
+abbrev Room : (tests width row spare : ℕ) → Type 0
+Room tests width row spare = ((0 < width) × (width ≤ widthFor tests)) × ((4 * width ≤ row) × (spareFor tests ≤ spare))
+
+pub few-room : (T : ℕ) → T ≤ 2 → Room T 64 256 256
+few-room T h = ((omega arith, omega (arith, few-width T h)), (omega arith, omega (arith, few-spare T h)))
+
+pub many-room : (T : ℕ) → 2 < T → Room T 8 32 768
+many-room T h = ((omega arith, omega (arith, many-width T h)), (omega arith, omega (arith, many-spare T h)))
 
 -- ---- the three limbs
 

@@ -10,7 +10,7 @@ ghost use Rattle.rows.specs.Rows.{Below};
 ghost use Rattle.field128.specs.Field128.{p128, elementsOf, wordsOf, Whole};
 ghost use Rattle.flp.specs.Tests.{testsOf};
 ghost use Rattle.groups.specs.Groups.{addGroup, roomFor};
-ghost use Rattle.limbs.specs.Limbs.{limbs, modulusFor, widthFor, SameLength};
+ghost use Rattle.limbs.specs.Limbs.{limbs, modulusFor, widthFor, spareFor, SameLength};
 
 // Adds to each sum what n bytes of its test, from byte j on, make of limb k of these coordinates, modulo p of
 // Field64. The row, for the limbs, is spoilt, and so is the spare row.
@@ -77,14 +77,14 @@ fn add_limbs(
 )
     requires { ⌜ (length (now low) * per ≤ length (now stream)) × ((j + n ≤ per) × (n ≤ widthFor (length (now low)))) ⌝ }
     requires { ⌜ length (now row) ≡ length (elementsOf (now part)) ⌝ }
-    requires { ⌜ (length (elementsOf (now part)) ≤ 4 * n) × (768 ≤ length (now spare)) ⌝ }
+    requires { ⌜ (length (elementsOf (now part)) ≤ 4 * n) × (spareFor (length (now low)) ≤ length (now spare)) ⌝ }
     requires { ⌜ (length (now middle) ≡ length (now low)) × (length (now high) ≡ length (now low)) ⌝ }
     requires { ⌜ Below (modulusFor (length (now low))) (now low) × (Below (modulusFor (length (now low))) (now middle) × Below (modulusFor (length (now low))) (now high)) ⌝ }
     ensures { λ _. ⌜ now (low .exit) ≡ addGroup (modulusFor (length (now (low .entry)))) per j n (limbs 0 (elementsOf (now (part .entry)))) (now (stream .entry)) (now (low .entry)) ⌝ }
     ensures { λ _. ⌜ now (middle .exit) ≡ addGroup (modulusFor (length (now (low .entry)))) per j n (limbs 1 (elementsOf (now (part .entry)))) (now (stream .entry)) (now (middle .entry)) ⌝ }
     ensures { λ _. ⌜ now (high .exit) ≡ addGroup (modulusFor (length (now (low .entry)))) per j n (limbs 2 (elementsOf (now (part .entry)))) (now (stream .entry)) (now (high .entry)) ⌝ }
 {
-    if low.len() <= columns::FEW {
+    if low.len() <= limb_tables::FEW {
         add_reduced(part, per, j, n, stream, row, spare, low, middle, high);
         return;
     }
@@ -104,7 +104,7 @@ fn run_groups(
     high: &mut [u64],
 )
     requires { ⌜ (length (now low) * per ≤ length (now stream)) × ((length (elementsOf (now gradient)) ≤ 4 * per) × (per < 65536)) ⌝ }
-    requires { ⌜ ((0 < width) × (width ≤ widthFor (length (now low)))) × ((4 * width ≤ length (now row)) × (768 ≤ length (now spare))) ⌝ }
+    requires { ⌜ ((0 < width) × (width ≤ widthFor (length (now low)))) × ((4 * width ≤ length (now row)) × (spareFor (length (now low)) ≤ length (now spare))) ⌝ }
     requires { ⌜ (length (now middle) ≡ length (now low)) × (length (now high) ≡ length (now low)) ⌝ }
     ensures { λ _. ⌜ now (low .exit) ≡ testsOf (modulusFor (length (now (low .entry)))) per (length (now (low .entry))) (now (stream .entry)) (limbs 0 (elementsOf (now (gradient .entry)))) ⌝ }
     ensures { λ _. ⌜ now (middle .exit) ≡ testsOf (modulusFor (length (now (low .entry)))) per (length (now (low .entry))) (now (stream .entry)) (limbs 1 (elementsOf (now (gradient .entry)))) ⌝ }
@@ -150,13 +150,13 @@ fn run_limbs(
     results: &mut [u64],
 )
     requires { ⌜ (length (now low) * per ≤ length (now stream)) × ((length (elementsOf (now gradient)) ≤ 4 * per) × (per ≤ 16384)) ⌝ }
-    requires { ⌜ ((0 < width) × (width ≤ widthFor (length (now low)))) × ((4 * width ≤ length (now row)) × (768 ≤ length (now spare))) ⌝ }
+    requires { ⌜ ((0 < width) × (width ≤ widthFor (length (now low)))) × ((4 * width ≤ length (now row)) × (spareFor (length (now low)) ≤ length (now spare))) ⌝ }
     requires { ⌜ SameLength (length (elementsOf (now results))) (now low) (now middle) (now high) ⌝ }
     requires { ⌜ Whole (now results) × Below p128 (elementsOf (now gradient)) ⌝ }
     ensures { λ _. ⌜ now (results .exit) ≡ wordsOf (testsOf p128 per (length (elementsOf (now (results .entry)))) (now (stream .entry)) (elementsOf (now (gradient .entry)))) ⌝ }
 {
     run_groups(gradient, per, width, stream, row, spare, low, middle, high);
-    let reduced = low.len() <= columns::FEW;
+    let reduced = low.len() <= limb_tables::FEW;
     limbs::join_rows(reduced, low, middle, high, results);
 }
 
@@ -167,23 +167,38 @@ pub fn run_block(gradient: &[u64], per: usize, stream: &[u8], results: &mut [u64
     ensures { λ _. ⌜ now (results .exit) ≡ wordsOf (testsOf p128 per (length (elementsOf (now (results .entry)))) (now (stream .entry)) (elementsOf (now (gradient .entry)))) ⌝ }
 {
     let tests = results.len() / 2;
-    let width = if tests > columns::FEW {
-        limb_tables::WIDTH
-    } else {
-        64
-    };
-    let mut row = [0u64; 256];
-    let mut spare = [0u64; 768];
+    if tests <= limb_tables::FEW {
+        let mut row = [0u64; 256];
+        let mut weights = [0u64; 256];
+        let mut low = [0u64; 2];
+        let mut middle = [0u64; 2];
+        let mut high = [0u64; 2];
+        run_limbs(
+            gradient,
+            per,
+            64,
+            stream,
+            &mut row,
+            &mut weights,
+            &mut low[..tests],
+            &mut middle[..tests],
+            &mut high[..tests],
+            results,
+        );
+        return;
+    }
+    let mut row = [0u64; 32];
+    let mut tables = [0u64; 768];
     let mut low = [0u64; 256];
     let mut middle = [0u64; 256];
     let mut high = [0u64; 256];
     run_limbs(
         gradient,
         per,
-        width,
+        limb_tables::WIDTH,
         stream,
         &mut row,
-        &mut spare,
+        &mut tables,
         &mut low[..tests],
         &mut middle[..tests],
         &mut high[..tests],

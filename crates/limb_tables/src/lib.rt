@@ -10,6 +10,9 @@ ghost use Rattle.tables.specs.Tables.{Entry, Undoes, Tables, entriesAt, entries
 ghost use Rattle.limbs.specs.Limbs.{limbs};
 ghost use Rattle.limb_tables.specs.LimbTables.{LimbTables};
 
+// So many tests, at the most, are too few for tables.
+pub const FEW: usize = 2;
+
 // So many bytes of each test, at the most, are a group.
 pub const WIDTH: usize = 8;
 

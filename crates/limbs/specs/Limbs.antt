@@ -21,13 +21,17 @@ abbrev pub modulusOf : (reduced : Bool) → ℕ
 modulusOf true = p64
 modulusOf false = 2 ^ 64
 
--- those of few tests are reduced
+-- those of one or two tests are reduced
 abbrev pub modulusFor : (tests : ℕ) → ℕ
-modulusFor tests = modulusOf (leb tests 6)
+modulusFor tests = modulusOf (leb tests 2)
 
 -- so many bytes of each test are taken at a time
 abbrev pub widthFor : (tests : ℕ) → ℕ
-widthFor tests = cond (leb tests 6) 64 8
+widthFor tests = cond (leb tests 2) 64 8
+
+-- so many words of a spare row they take: four weights for a byte, or the tables of three limbs
+abbrev pub spareFor : (tests : ℕ) → ℕ
+spareFor tests = cond (leb tests 2) 256 768
 
 -- a test's result by its results on the three limbs, modulo m. Each of these stands for a whole number, from -2 ^ 59 to 2 ^ 59, and is raised until that is none below 0; in all, 2 ^ 18 times p128 is added
 abbrev pub raiseLow : ℕ

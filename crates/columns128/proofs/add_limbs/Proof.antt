@@ -1,12 +1,10 @@
 -- `columns128::add_limbs` meets its contract, by either form. Assumes nothing.
 use mathlib.Core.Path.{sym}
-use native.Mathlib.Omega.{arith}
 use borrow.Author.Needs.{needs}
 use lib.ListN.{length}
 use Rattle.field128.specs.Field128.{elementsOf}
-use Rattle.groups.proofs.Swapped.{room-few}
 use Rattle.limbs.specs.Limbs.{limbs}
-use Rattle.columns128.proofs.Sums.{few-modulus, many-modulus, below-by, added-by, width-most, width-many}
+use Rattle.columns128.proofs.Sums.{few-modulus, many-modulus, below-by, added-by, weights-fit, tables-fit}
 use Rattle.columns128.proofs.add_limbs.Statement.{statement}
 use Rattle.columns128.proofs.add_limbs.Tie as tie
 
@@ -16,12 +14,13 @@ add-reduced-requires c κs =
     let s = c .before .before .before .before .before .before .before .before .before .before .before .before .before in
     let T = length (s .args .low .now) in
     let m = few-modulus T (i .if1 .taken) in
+    let fit = weights-fit T (s .args .n) _ (i .if1 .taken) (s .pre .0 .1 .1) (s .pre .1 .1 .0 .1) in
     let below = s .pre .1 .1 .1 .1 in (
-      (s .pre .0 .0, (s .pre .0 .1 .0, omega (arith, s .pre .0 .1 .1, width-most T))),
+      (s .pre .0 .0, (s .pre .0 .1 .0, fit .0)),
       (
         s .pre .1 .0,
         (
-          (s .pre .1 .1 .0 .0, omega (arith, room-few T (s .args .n) (i .if1 .taken), s .pre .0 .1 .1, width-most T, s .pre .1 .1 .0 .1)),
+          (s .pre .1 .1 .0 .0, fit .1),
           (s .pre .1 .1 .1 .0, (below-by _ _ (s .args .low .now) m (below .0), (below-by _ _ (s .args .middle .now) m (below .1 .0), below-by _ _ (s .args .high .now) m (below .1 .1)))),
         ),
       ),
@@ -55,7 +54,7 @@ add-tabled-requires : tie.Need-add-tabled-requires
 add-tabled-requires c κs =
     let i = c .before .before .before .before .before in
     let s = c .before .before .before .before .before .before .before .before .before .before .before .before .before in
-    ((s .pre .0 .0, (s .pre .0 .1 .0, (width-many (length (s .args .low .now)) (s .args .n) (i .if1 .left) (s .pre .0 .1 .1), s .pre .1 .1 .0 .1))), (s .pre .1 .0, s .pre .1 .1 .1 .0))
+    ((s .pre .0 .0, (s .pre .0 .1 .0, tables-fit (length (s .args .low .now)) (s .args .n) _ (i .if1 .left) (s .pre .0 .1 .1) (s .pre .1 .1 .0 .1))), (s .pre .1 .0, s .pre .1 .1 .1 .0))
 
 same-length-6 : tie.Need-same-length-6
 same-length-6 c = search needs

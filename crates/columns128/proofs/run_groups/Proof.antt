@@ -12,7 +12,7 @@ use Rattle.groups.proofs.Swapped.{Fits, group-fits, row-long, same-room}
 use Rattle.limbs.specs.Limbs.{limbs, modulusFor}
 use Rattle.limbs.proofs.Words.{length-limbs}
 use Rattle.limbs.proofs.Summed.{Summed, summed-start, summed-below, summed-next, summed-end}
-use Rattle.columns128.proofs.Sums.{part-long, words-inside, part-limbs, positive, below-by, added-by, tests-by, width-most, width-less}
+use Rattle.columns128.proofs.Sums.{part-long, words-inside, part-limbs, positive, below-by, added-by, tests-by, width-most, fits-by}
 use Rattle.columns128.proofs.run_groups.Statement.{statement}
 use Rattle.columns128.proofs.run_groups.Tie as tie
 
@@ -119,13 +119,14 @@ add-limbs-requires c κs =
     let long = part-long (r .first) (r .last) words (fits g .in-order) (fits g .coordinates) in
     let sums = l .loop .inv .2 in
     let T = sums .0 .0 ∙ z .kept .0 in
+    let fit = fits-by _ _ (r .end - l .loop .j) (s .args .width) _ _ T (l .loop .inv .1 .1) (fits g .few) (s .pre .1 .0 .0 .1) (s .pre .1 .0 .1 .1) in
     let T₀ = length (z .last .0) in
     let m = ap modulusFor (sym (sums .0 .0)) in (
-      (same-room _ _ (s .args .per) _ T (s .pre .0 .0), (omega (arith, fits g), width-less _ _ (r .end - l .loop .j) (s .args .width) T (fits g .few) (s .pre .1 .0 .0 .1))),
+      (same-room _ _ (s .args .per) _ T (s .pre .0 .0), (omega (arith, fits g), fit .0)),
       (
         row-long (r .last - r .first) (l .loop .row) (room g) ∙ sym long,
         (
-          (rw long (fits g .few-coordinates), omega (arith, l .loop .inv .1 .1, s .pre .1 .0 .1 .1)),
+          (rw long (fits g .few-coordinates), fit .1),
           (
             (sums .1 .0 .0 ∙ sym (sums .0 .0), sums .1 .1 .0 ∙ sym (sums .0 .0)),
             (

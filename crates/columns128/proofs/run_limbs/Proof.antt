@@ -52,7 +52,7 @@ returns c =
     let s = c .before .before .before .before .before .before .before .before .before .before .before .before .before .before .before .before .before .before .before .before .before .before .before .before .before .before .before .before .before .before .before in
     let r = c .before .before .before .before .before .before .before .before .before .before .before .before .before .before .before .before .before .run-groups in
     let j = c .before .before .join-rows in
-    j .ensures ∙ ap wordsOf (limbs-joined _ _ (ap modulusFor (r .kept .1 .1 .1 .1 .1 .1 .0)) (enough (leb (length (s .args .low .now)) 6)) (s .args .per) _ _ (s .args .stream .now) (elementsOf (s .args .gradient .now)) _ _ _ (s .pre .1 .1 .0 .0) (s .pre .1 .1 .1 .1) (s .pre .0 .1 .0) (s .pre .0 .1 .1) (r .ensures .0) (r .ensures .1 .0) (r .ensures .1 .1))
+    j .ensures ∙ ap wordsOf (limbs-joined _ _ (ap modulusFor (r .kept .1 .1 .1 .1 .1 .1 .0)) (enough (leb (length (s .args .low .now)) 2)) (s .args .per) _ _ (s .args .stream .now) (elementsOf (s .args .gradient .now)) _ _ _ (s .pre .1 .1 .0 .0) (s .pre .1 .1 .1 .1) (s .pre .0 .1 .0) (s .pre .0 .1 .1) (r .ensures .0) (r .ensures .1 .0) (r .ensures .1 .1))
 
 pub run-limbs-spec : {M : Type 1} → statement M
 run-limbs-spec =
