@@ -2,4 +2,4 @@
 pub mod Parts
 pub mod Columns
 mod Stored
-mod Scaled
+pub mod Scaled
