@@ -8,7 +8,7 @@
 #: make test           the gate: proves every crate from nothing, tries the edits that must fail, runs the programs
 #:                     needs the kit; up to an hour on two threads of one core
 #: make edits          tries the edits that the gate leaves out (tests/edits); CRATES names some
-#:                     needs the kit; about 15 minutes where all is proved
+#:                     needs the kit; about 40 minutes where all is proved
 #: make lib            build/libpine_c.a, proved, with pine.h beside it
 #:                     needs the kit; about 6 minutes from nothing, seconds where all is proved
 #: make install        copies both, and a file for pkg-config, under PREFIX (/usr/local); DESTDIR goes before that
