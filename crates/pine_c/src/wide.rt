@@ -26,7 +26,7 @@ ghost use Rattle.c_inputs.specs.Bytes.{paramOf};
 
 // The rows of wiping that cover the stack, as the crate's root has them over Field64. After the tests, wiping takes a
 // seventh of the shortest call that is wiped.
-const ENCODE_ROWS: usize = 32;
+const ENCODE_ROWS: usize = 16;
 
 const TESTS_ROWS: usize = 13;
 
