@@ -44,10 +44,10 @@ load:
 	@SEED='$(SEED)' REPORTS='$(REPORTS)' N='$(N)' D='$(D)' F='$(F)' C='$(C)' E='$(E)' T='$(T)' K='$(K)' NUM='$(NUM)' DEN='$(DEN)' \
 		RULE='$(RULE)' SWITCH='$(SWITCH)' examples/load/run
 
-# .ci/run runs this
+# .ci/run runs this. Four at a time, on fewer processors too: rt waits for all that it began, and of two one is often alone
 test:
 	$(kit)
-	rt ci
+	RT_JOBS=$${RT_JOBS:-4} rt ci
 
 # those beside crates/*/must-fail, which the gate tries
 edits:
