@@ -1,8 +1,9 @@
 //! The calls of libpine_c.a, include/pine.h, beside the original's and those written by hand.
 
 use crate::{
+    by_hand::Number,
     by_hand_calls::{self as by_hand, Outcome, Param},
-    field::{fields, random_row, words, Adding, Answer, Circuit, Field},
+    field::{fields, numbers, random_row, width, words, words_of, Adding, Answer, ByHand, Circuit, Field, Words},
     row,
     stream::{give, Given},
     way, Random, Row, Title, Way, Ways, FRAC_BITS, SCALE,
@@ -152,12 +153,12 @@ fn title<F: Field>(name: &str, d: usize, of: &'static str, bytes: usize) -> Titl
 
 /// The bytes of a row of so many elements.
 fn bytes<F: Field>(elements: usize) -> usize {
-    8 * F::WORDS * elements
+    8 * width::<F>() * elements
 }
 
 /// A row of so many elements that is to be written.
 fn unwritten<F: Field>(elements: usize) -> Vec<u64> {
-    vec![1; F::WORDS * elements]
+    vec![1; width::<F>() * elements]
 }
 
 type Original<F> = Pine<F, XofTurboShake128, 16>;
@@ -213,11 +214,11 @@ fn report(random: &mut Random, param: Param) -> Report {
     Report { param, gradient: random.gradient(d), stream: random.bytes(d.div_ceil(4) * t) }
 }
 
-/// A report and the rows for its encoding.
-struct Encoding {
+/// A report and the rows for its encoding: of words, or by hand of numbers.
+struct Encoding<N = u64> {
     report: Report,
-    measurement: Vec<u64>,
-    results: Vec<u64>,
+    measurement: Vec<N>,
+    results: Vec<N>,
 }
 
 fn encoding<F: Field>(s: &Report) -> Encoding {
@@ -226,9 +227,19 @@ fn encoding<F: Field>(s: &Report) -> Encoding {
     Encoding { report, measurement: unwritten::<F>(d + checked_len(t)), results: unwritten::<F>(t) }
 }
 
-fn encode_by_hand(w: &mut Encoding) -> Answer {
+fn encoding_by_hand<F: Field>(s: &Report) -> Encoding<ByHand<F>> {
+    let Encoding { report, measurement, results } = encoding::<F>(s);
+    Encoding { report, measurement: numbers::<F>(&measurement), results: numbers::<F>(&results) }
+}
+
+fn encode_by_hand<N: Number>(w: &mut Encoding<N>) -> Answer {
     let Report { param, gradient, stream } = &w.report;
     answer(&by_hand::encode(*param, gradient, stream, &mut w.measurement, &mut w.results))
+}
+
+fn encoded_by_hand<N: Number>(w: Encoding<N>, answer: Answer) -> Vec<u64> {
+    accepted(answer);
+    words_of(w.measurement.into_iter().chain(w.results))
 }
 
 fn encode_ours<F: Field>(w: &mut Encoding) -> Answer {
@@ -292,7 +303,7 @@ fn encode<F: Field>(d: usize, t: usize) -> Row {
         Ways {
             original: Some(original),
             ours: way(encoding::<F>, encode_ours::<F>, encoded),
-            by_hand: F::BY_HAND.then(|| way(encoding::<F>, encode_by_hand, encoded)),
+            by_hand: Some(way(encoding_by_hand::<F>, encode_by_hand, encoded_by_hand)),
         },
     )
 }
@@ -345,18 +356,19 @@ fn encode_seed(d: usize, t: usize) -> Row {
 }
 
 #[derive(Clone)]
-struct Tests {
+struct Tests<N = u64> {
     param: Param,
-    gradient: Vec<u64>,
+    gradient: Vec<N>,
     stream: Vec<u8>,
-    results: Vec<u64>,
+    results: Vec<N>,
 }
 
 /// The tests of an encoded gradient, or of a share of one.
 fn fresh_tests<F: Field>(random: &mut Random, param: Param, share: bool) -> Tests {
     let report = report(random, param);
     let d = report.gradient.len();
-    let gradient = if share { random_row::<F>(random, d) } else { full_vector::<F>(&report)[..F::WORDS * d].to_vec() };
+    let gradient =
+        if share { random_row::<F>(random, d) } else { full_vector::<F>(&report)[..width::<F>() * d].to_vec() };
     Tests { param, gradient, stream: report.stream, results: unwritten::<F>(param.0[5] as usize) }
 }
 
@@ -374,8 +386,18 @@ fn tests_ours<F: Field>(w: &mut Tests) -> Answer {
     }
 }
 
-fn tests_by_hand(w: &mut Tests) -> Answer {
+fn rows_by_hand<F: Field>(s: &Tests) -> Tests<ByHand<F>> {
+    let [gradient, results] = [&s.gradient, &s.results].map(|row| numbers::<F>(row));
+    Tests { param: s.param, gradient, stream: s.stream.clone(), results }
+}
+
+fn tests_by_hand<N: Number>(w: &mut Tests<N>) -> Answer {
     answer(&by_hand::run_wr_tests(w.param, &w.gradient, &w.stream, &mut w.results))
+}
+
+fn results_by_hand<N: Number>(w: Tests<N>, answer: Answer) -> Vec<u64> {
+    accepted(answer);
+    words_of(w.results)
 }
 
 fn test_results(w: Tests, answer: Answer) -> Vec<u64> {
@@ -403,7 +425,7 @@ fn tests<F: Field>(d: usize, t: usize, share: bool) -> Row {
         Ways {
             original: Some(original),
             ours: way(Tests::clone, tests_ours::<F>, test_results),
-            by_hand: F::BY_HAND.then(|| way(Tests::clone, tests_by_hand, test_results)),
+            by_hand: Some(way(rows_by_hand::<F>, tests_by_hand, results_by_hand)),
         },
     )
 }
@@ -583,24 +605,19 @@ fn sample(d: usize, t: usize) -> Row {
 
 // The circuits
 
-/// A report's measurement and results: by hand, which is faster, or as the original has them.
+/// A report's measurement and results, by hand, which is faster than the original.
 fn full_vector<F: Field>(report: &Report) -> Vec<u64> {
-    if F::BY_HAND {
-        let mut rows = encoding::<F>(report);
-        let answer = encode_by_hand(&mut rows);
-        encoded(rows, answer)
-    } else {
-        let (measurement, results) = encode_original::<F>(&mut original_encoding(report));
-        words(&[measurement, results].concat())
-    }
+    let mut rows = encoding_by_hand::<F>(report);
+    let answer = encode_by_hand(&mut rows);
+    encoded_by_hand(rows, answer)
 }
 
 #[derive(Clone)]
-struct Full {
+struct Full<N = u64> {
     param: Param,
     num_shares: u64,
-    full: Vec<u64>,
-    joint_rand: Vec<u64>,
+    full: Vec<N>,
+    joint_rand: Vec<N>,
 }
 
 /// A report's full vector with num_shares 1, or a share of one with num_shares 2.
@@ -608,7 +625,7 @@ fn fresh_full<F: Field>(random: &mut Random, param: Param, num_shares: u64) -> F
     let report = report(random, param);
     let mut full = full_vector::<F>(&report);
     if num_shares > 1 {
-        full = random_row::<F>(random, full.len() / F::WORDS);
+        full = random_row::<F>(random, full.len() / width::<F>());
     }
     Full { param, num_shares, full, joint_rand: random_row::<F>(random, 3) }
 }
@@ -667,38 +684,46 @@ impl<F: Field> OriginalFull<F> {
         self.gadgets = circuit(&self.pine).gadget().into_iter().map(counted).collect();
         assert_eq!(self.valid(circuit), value);
         assert!(self.num_shares > 1 || value == F::zero());
-        circuit_numbers::<F>(value.words(), calls.get())
+        circuit_numbers(value, calls.get())
     }
 }
 
-fn circuit_numbers<F: Field>(value: F::Words, gadget_calls: u64) -> Vec<u64> {
-    [value.as_ref(), &[gadget_calls]].concat()
+fn circuit_numbers<F: Field>(value: F, gadget_calls: u64) -> Vec<u64> {
+    [words(&[value]), vec![gadget_calls]].concat()
 }
 
 fn original_circuit<F: Field, T: Type<Field = F> + 'static>(circuit: fn(&Original<F>) -> &T) -> Way<Full> {
     let ready = move |s: &Full| {
         let pine = new(s.param);
         let gadgets = circuit(&pine).gadget();
-        let joint_rand = fields(&s.joint_rand[..F::WORDS * circuit(&pine).joint_rand_len()]);
+        let joint_rand = fields(&s.joint_rand[..width::<F>() * circuit(&pine).joint_rand_len()]);
         OriginalFull { pine, gadgets, full: fields(&s.full), joint_rand, num_shares: s.num_shares as usize }
     };
     way(ready, move |w| w.valid(circuit), move |w, value| w.counted(circuit, value))
 }
 
+fn full_by_hand<F: Field>(s: &Full) -> Full<ByHand<F>> {
+    let [full, joint_rand] = [&s.full, &s.joint_rand].map(|row| numbers::<F>(row));
+    Full { param: s.param, num_shares: s.num_shares, full, joint_rand }
+}
+
 fn circuit_ways<F: Field, T: Type<Field = F> + 'static>(
     circuit: fn(&Original<F>) -> &T,
-    ours: fn(&mut Full) -> Circuit<F::Words>,
-    by_hand: fn(&mut Full) -> Outcome<by_hand::Circuit>,
+    ours: fn(&mut Full) -> Circuit<Words<F>>,
+    by_hand: fn(&mut Full<ByHand<F>>) -> Outcome<by_hand::Circuit<ByHand<F>>>,
 ) -> Ways<Full> {
-    let our_numbers = |_, c: Circuit<F::Words>| {
+    let our_numbers = |_, c: Circuit<Words<F>>| {
         accepted(c.answer);
-        circuit_numbers::<F>(c.value, c.gadget_calls)
+        [c.value.as_ref(), &[c.gadget_calls]].concat()
     };
-    let numbers = |_, outcome: Outcome<by_hand::Circuit>| outcome.map(|(value, calls)| vec![value, calls]).unwrap();
+    let numbers_by_hand = |_, outcome: Outcome<by_hand::Circuit<ByHand<F>>>| {
+        let (value, calls) = outcome.unwrap();
+        circuit_numbers(F::from(value), calls)
+    };
     Ways {
         original: Some(original_circuit(circuit)),
         ours: way(Full::clone, ours, our_numbers),
-        by_hand: F::BY_HAND.then(|| way(Full::clone, by_hand, numbers)),
+        by_hand: Some(way(full_by_hand::<F>, by_hand, numbers_by_hand)),
     }
 }
 
@@ -761,10 +786,15 @@ fn part(name: &str, d: usize, call: PartCall, which: usize) -> Row {
 // Aggregates
 
 #[derive(Clone)]
-struct Two {
+struct Two<N = u64> {
     param: Param,
-    left: Vec<u64>,
-    right: Vec<u64>,
+    left: Vec<N>,
+    right: Vec<N>,
+}
+
+fn two_by_hand<F: Field>(s: &Two) -> Two<ByHand<F>> {
+    let [left, right] = [&s.left, &s.right].map(|row| numbers::<F>(row));
+    Two { param: s.param, left, right }
 }
 
 fn two<F: Field>(random: &mut Random, d: usize) -> Two {
@@ -804,7 +834,7 @@ fn empty_aggregate(d: usize) -> Row {
     row(title, move |r| two::<Field64>(r, d), Ways { original: Some(original), ours, by_hand: Some(by_hand) })
 }
 
-type AddingByHand = fn(Param, &mut [u64], &[u64]) -> Outcome<()>;
+type AddingByHand<F> = fn(Param, &mut [ByHand<F>], &[ByHand<F>]) -> Outcome<()>;
 type OriginalAdding<F> = fn(&mut PineVec<F>, &PineVec<F>);
 
 fn original_adding<F: Field>(call: OriginalAdding<F>) -> Way<Two> {
@@ -816,17 +846,24 @@ fn adding<F: Field>(
     d: usize,
     original: Option<OriginalAdding<F>>,
     call: Adding,
-    by_hand: AddingByHand,
+    by_hand: AddingByHand<F>,
 ) -> Row {
     let ours = way(
         Two::clone,
         move |w: &mut Two| unsafe { call(w.param, w.left.as_mut_ptr(), w.left.len(), w.right.as_ptr(), w.right.len()) },
         left,
     );
-    let by_hand = way(Two::clone, move |w: &mut Two| answer(&by_hand(w.param, &mut w.left, &w.right)), left);
+    let by_hand = way(
+        two_by_hand::<F>,
+        move |w: &mut Two<ByHand<F>>| answer(&by_hand(w.param, &mut w.left, &w.right)),
+        |w, answer| {
+            accepted(answer);
+            words_of(w.left)
+        },
+    );
     let title = title::<F>(name, d, "element", bytes::<F>(2 * d));
     let original = original.map(original_adding);
-    row(title, move |r| two::<F>(r, d), Ways { original, ours, by_hand: F::BY_HAND.then_some(by_hand) })
+    row(title, move |r| two::<F>(r, d), Ways { original, ours, by_hand: Some(by_hand) })
 }
 
 fn accumulate<F: Field>(d: usize) -> Row {
@@ -845,9 +882,9 @@ fn unshard<F: Field>(d: usize) -> Row {
         |(pine, rows): &mut (Original<F>, Vec<PineVec<F>>)| pine.unshard(&(), std::mem::take(rows), 1).unwrap(),
         |_, decoded| bits(decoded, ACCEPTED),
     );
-    let ready = |s: &Two| (s.clone(), vec![1.0; s.left.len() / F::WORDS]);
+    let unwritten = |s: &Two| vec![1.0; s.left.len() / width::<F>()];
     let ours = way(
-        ready,
+        move |s: &Two| (s.clone(), unwritten(s)),
         |(w, decoded)| unsafe {
             let (left, right) = (&w.left, &w.right);
             (F::CALLS.unshard)(
@@ -863,12 +900,12 @@ fn unshard<F: Field>(d: usize) -> Row {
         |(_, decoded), answer| bits(decoded, answer),
     );
     let by_hand = way(
-        ready,
+        move |s| (two_by_hand::<F>(s), unwritten(s)),
         |(w, decoded)| answer(&by_hand::unshard(w.param, &w.left, &w.right, decoded)),
         |(_, decoded), answer| bits(decoded, answer),
     );
     let title = title::<F>("unshard", d, "element", bytes::<F>(2 * d) + 8 * d);
-    let ways = Ways { original: Some(original), ours, by_hand: F::BY_HAND.then_some(by_hand) };
+    let ways = Ways { original: Some(original), ours, by_hand: Some(by_hand) };
     row(title, move |r| two_of_sums::<F>(r, d), ways)
 }
 
@@ -902,7 +939,7 @@ fn field_to_f64() -> Row {
         ours: way(u64::clone, |y| unsafe { pine_field_to_f64(*y, FRAC_BITS) }, move |_, c| ours(c)),
         by_hand: Some(way(u64::clone, |y| by_hand::field_to_f64(*y, FRAC_BITS), |_, x| vec![x.unwrap().to_bits()])),
     };
-    row(single("field_to_f64", 16), Random::element, ways)
+    row(single("field_to_f64", 16), Random::element::<u64>, ways)
 }
 
 fn any_param(random: &mut Random) -> Param {

@@ -125,11 +125,6 @@ def headlines(rows):
     return table((NAME, DIMENSION, OF, *TIMES), chosen)
 
 
-def over_field128(rows):
-    """None of them is written by hand."""
-    return table((NAME, DIMENSION, OF, ORIGINAL, OURS, TO_ORIGINAL, TO_READING), rows)
-
-
 def of_calls(names, rows):
     mine = sorted((r for r in rows if r.name in names), key=lambda r: (r.length, r.tests or 0))
     over_rows = mine[0].of != "call"
@@ -212,7 +207,7 @@ def document(rows, processor, picture):
         "## Each call over all sizes",
         *(of_calls(names, calls) for names in TABLES),
         "## Over Field128",
-        over_field128(calls128),
+        table((NAME, DIMENSION, OF, *TIMES), calls128),
         "## The day's file",
         of_files(files),
         "## Leaf functions, in loops over rows",
@@ -220,7 +215,7 @@ def document(rows, processor, picture):
         "## Memory, in the same run",
         of_memory(kinds["memory"]),
         "## Slower than by hand",
-        slower(calls + files + leaves, "by hand", lambda r: r.by_hand, lambda r: r.to_by_hand),
+        slower(calls + calls128 + files + leaves, "by hand", lambda r: r.by_hand, lambda r: r.to_by_hand),
         "## Slower than the original",
         slower(calls + calls128 + leaves, "the original", lambda r: r.original, lambda r: r.to_original),
     ]

@@ -1,7 +1,7 @@
 //! The fields that calls are over: how an element lies in a row, and the calls of libpine_c.a, include/pine.h, that both
 //! fields have rows of.
 
-use crate::{by_hand_calls::Param, Random};
+use crate::{by_hand::Number, by_hand_calls::Param, Random};
 use pine_oracle::fields::Elem;
 use prio_draft09::field::{Field128, Field64, FieldElementWithInteger};
 
@@ -86,30 +86,25 @@ macro_rules! calls {
     }};
 }
 
-pub trait Field: Elem {
-    /// An element in a row, low first.
-    type Words: AsRef<[u64]> + 'static;
-    const WORDS: usize;
-    const CALLS: Calls<Self::Words>;
+/// The original's elements, and their numbers as one has them by hand.
+pub trait Field: Elem<Integer: Number + From<Self>> {
+    const CALLS: Calls<Words<Self>>;
 
     /// The kind of a row of a call, and what its name ends in.
     const KIND: &'static str;
     const SUFFIX: &'static str;
 
-    /// Whether the calls are written by hand, too.
-    const BY_HAND: bool;
-
-    fn of_words(words: &[u64]) -> Self;
-    fn words(self) -> Self::Words;
-    fn random(random: &mut Random) -> Self::Words;
-
     /// A sum that can be decoded, of either sign.
     fn random_sum(random: &mut Random) -> Self;
 }
 
+/// An element by hand.
+pub type ByHand<F> = <F as FieldElementWithInteger>::Integer;
+
+/// An element in a row, low first.
+pub type Words<F> = <ByHand<F> as Number>::Words;
+
 impl Field for Field64 {
-    type Words = [u64; 1];
-    const WORDS: usize = 1;
     const CALLS: Calls<[u64; 1]> = calls!(
         [u64; 1],
         pine_encode_with_wr_joint_rand,
@@ -121,36 +116,13 @@ impl Field for Field64 {
     );
     const KIND: &'static str = "call";
     const SUFFIX: &'static str = "";
-    const BY_HAND: bool = true;
-
-    fn of_words(words: &[u64]) -> Field64 {
-        Field64::from(words[0])
-    }
-
-    fn words(self) -> [u64; 1] {
-        [u64::from(self)]
-    }
-
-    fn random(random: &mut Random) -> [u64; 1] {
-        [random.element()]
-    }
 
     fn random_sum(random: &mut Random) -> Field64 {
-        Field64::from(random.element())
+        Field64::from(random.element::<u64>())
     }
-}
-
-fn words128(x: u128) -> [u64; 2] {
-    [x as u64, (x >> 64) as u64]
-}
-
-fn number128(words: &[u64]) -> u128 {
-    u128::from(words[0]) | u128::from(words[1]) << 64
 }
 
 impl Field for Field128 {
-    type Words = [u64; 2];
-    const WORDS: usize = 2;
     const CALLS: Calls<[u64; 2]> = calls!(
         [u64; 2],
         pine128_encode_with_wr_joint_rand,
@@ -162,24 +134,6 @@ impl Field for Field128 {
     );
     const KIND: &'static str = "call128";
     const SUFFIX: &'static str = "128";
-    const BY_HAND: bool = false;
-
-    fn of_words(words: &[u64]) -> Field128 {
-        Field128::from(number128(words))
-    }
-
-    fn words(self) -> [u64; 2] {
-        words128(u128::from(self))
-    }
-
-    fn random(random: &mut Random) -> [u64; 2] {
-        loop {
-            let words = [random.next(), random.next()];
-            if number128(&words) < Field128::modulus() {
-                return words;
-            }
-        }
-    }
 
     /// As large as Field64's: larger ones are refused from 2^64 on.
     fn random_sum(random: &mut Random) -> Field128 {
@@ -192,16 +146,28 @@ impl Field for Field128 {
     }
 }
 
+/// How many words an element has in a row.
+pub fn width<F: Field>() -> usize {
+    Words::<F>::default().as_ref().len()
+}
+
+pub fn words_of<N: Number>(row: impl IntoIterator<Item = N>) -> Vec<u64> {
+    let words: Vec<N::Words> = row.into_iter().map(N::words).collect();
+    words.iter().flat_map(N::Words::as_ref).copied().collect()
+}
+
 pub fn random_row<F: Field>(random: &mut Random, n: usize) -> Vec<u64> {
-    let words: Vec<F::Words> = (0..n).map(|_| F::random(random)).collect();
-    words.iter().flat_map(F::Words::as_ref).copied().collect()
+    words_of((0..n).map(|_| random.element::<ByHand<F>>()))
+}
+
+pub fn numbers<F: Field>(row: &[u64]) -> Vec<ByHand<F>> {
+    row.chunks_exact(width::<F>()).map(ByHand::<F>::of_words).collect()
 }
 
 pub fn fields<F: Field>(row: &[u64]) -> Vec<F> {
-    row.chunks_exact(F::WORDS).map(F::of_words).collect()
+    numbers::<F>(row).into_iter().map(F::from).collect()
 }
 
 pub fn words<F: Field>(row: &[F]) -> Vec<u64> {
-    let words: Vec<F::Words> = row.iter().map(|x| x.words()).collect();
-    words.iter().flat_map(F::Words::as_ref).copied().collect()
+    words_of(row.iter().map(|x| ByHand::<F>::from(*x)))
 }

@@ -1,11 +1,7 @@
 //! The calls on a day's file, beside plain copies of its bytes; adding also beside a copy that tests rule 14 first; and
 //! the exact size beside sorting. The original has no such calls.
 
-use crate::{
-    by_hand,
-    by_hand_calls::Param,
-    row, way, Random, Row, Title, Ways,
-};
+use crate::{by_hand::Number, by_hand_calls::Param, row, way, Random, Row, Title, Ways};
 
 #[repr(C)]
 #[derive(Debug, PartialEq)]
@@ -181,7 +177,7 @@ fn add_by_hand(old: &[u8], key: [u8; 8], share: &[u64], second: &mut [u8]) -> us
     c[12 * at + 8..12 * at + 12].copy_from_slice(&(reports + 1).to_le_bytes());
     for (k, x) in share.iter().enumerate() {
         let old = &bodies[8 * (D * at + k).min(D * entries - 1)..][..8];
-        let sum = if held { by_hand::add(u64::from_le_bytes(old.try_into().unwrap()), *x) } else { *x };
+        let sum = if held { u64::from_le_bytes(old.try_into().unwrap()).plus(*x) } else { *x };
         b[8 * (D * at + k)..][..8].copy_from_slice(&sum.to_le_bytes());
     }
     6 + now * ENTRY
@@ -196,7 +192,7 @@ fn is_file(file: &[u8]) -> bool {
     }
     let (contents, bodies) = rest.split_at(12 * entries);
     let rise = contents.chunks(12).zip(contents.chunks(12).skip(1)).all(|(a, b)| order(a) < order(b));
-    let below = |x: &[u8]| u64::from_le_bytes(x.try_into().unwrap()) < by_hand::P;
+    let below = |x: &[u8]| u64::from_le_bytes(x.try_into().unwrap()) < u64::P;
     rise && bodies.chunks_exact(8).fold(true, |all, x| all & below(x))
 }
 
@@ -208,13 +204,12 @@ fn adding(name: &str, entries: usize, held: bool, tests: bool) -> Row {
     let ours = |(old, key, share, second): &mut Rows| {
         let (o, s, n) = (old.len(), share.len(), second.len());
         let key = Key(*key);
-        let added =
-            unsafe { pine_file_add(param(), key, old.as_ptr(), o, share.as_ptr(), s, second.as_mut_ptr(), n) };
+        let added = unsafe { pine_file_add(param(), key, old.as_ptr(), o, share.as_ptr(), s, second.as_mut_ptr(), n) };
         accepted(added.answer);
         added.len as usize
     };
     let by_hand = move |(old, key, share, second): &mut Rows| {
-        assert!(!tests || is_file(old) && share.iter().all(|x| *x < by_hand::P));
+        assert!(!tests || is_file(old) && share.iter().all(|x| *x < u64::P));
         add_by_hand(old, *key, share, second)
     };
     let ways = Ways { original: None, ours: way(ready, ours, gave), by_hand: Some(way(ready, by_hand, gave)) };
@@ -225,9 +220,8 @@ fn adding(name: &str, entries: usize, held: bool, tests: bool) -> Row {
 const KEYS: usize = 1_000_000;
 
 fn size() -> Row {
-    let fresh = |random: &mut Random| -> Vec<u8> {
-        (0..KEYS).flat_map(|_| key(random.next() as usize % ENTRIES)).collect()
-    };
+    let fresh =
+        |random: &mut Random| -> Vec<u8> { (0..KEYS).flat_map(|_| key(random.next() as usize % ENTRIES)).collect() };
     let ready = |keys: &Vec<u8>| keys.clone();
     let gave = |_: Vec<u8>, len: u64| vec![len];
     let ours = |keys: &mut Vec<u8>| {
@@ -242,7 +236,10 @@ fn size() -> Row {
         (6 + all.len() * ENTRY) as u64
     };
     let ways = Ways { original: None, ours: way(ready, ours, gave), by_hand: Some(way(ready, by_hand, gave)) };
-    let title = Title { note: "a million keys, 1024 different; by hand sorts".into(), ..Title::new("file", "file_size", KEYS, "key", 8 * KEYS) };
+    let title = Title {
+        note: "a million keys, 1024 different; by hand sorts".into(),
+        ..Title::new("file", "file_size", KEYS, "key", 8 * KEYS)
+    };
     row(title, fresh, ways)
 }
 

@@ -1,8 +1,8 @@
 //! Measures rows: each says how to make fresh inputs, and the ways to work on them. A repetition makes inputs, takes
 //! the ways in turn, each on copies of its own that were just written, compares what they give, and reads as many
 //! bytes as their rows have.
-//! `calls` has the rows of the calls, over the fields of `field`, `files` those on a day's file, `leaves` those of the leaf functions, `memory`
-//! reading and copying.
+//! `calls` has the rows of the calls, over the fields of `field`, `files` those on a day's file, `leaves` those of the
+//! leaf functions, `memory` reading and copying.
 //! A line of the output is a row, its columns parted by tabs; document.py reads them.
 
 mod by_hand;
@@ -14,6 +14,7 @@ mod leaves;
 mod memory;
 mod stream;
 
+use by_hand::Number;
 use std::{
     hint::black_box,
     time::{Duration, Instant, SystemTime},
@@ -37,10 +38,12 @@ impl Random {
         (self.next() >> 11) as f64 / (1u64 << 53) as f64
     }
 
-    fn element(&mut self) -> u64 {
+    fn element<N: Number>(&mut self) -> N {
         loop {
-            let x = self.next();
-            if x < by_hand::P {
+            let mut words = N::Words::default();
+            words.as_mut().fill_with(|| self.next());
+            let x = N::of_words(words.as_ref());
+            if x < N::P {
                 return x;
             }
         }
