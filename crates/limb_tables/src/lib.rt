@@ -47,12 +47,7 @@ fn write_table(a: u64, b: u64, start: usize, tables: &mut [u64])
     ensures { λ _. ⌜ ((k : ℕ) → k < 16 → Entry (2 ^ 64) a b k (getD (now (tables .exit)) (start + k) 0)) ⌝ }
     ensures { λ _. ⌜ ((i : ℕ) → i < start → getD (now (tables .exit)) i 0 ≡ getD (now (tables .entry)) i 0) ⌝ }
 {
-    let entries = table(a, b);
-    let mut k = 0;
-    while k < 16 {
-        tables[start + k] = entries[k];
-        k += 1;
-    }
+    tables::write_entries(table(a, b), start, tables);
 }
 
 // The word at k, or 0 past the end.

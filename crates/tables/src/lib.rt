@@ -26,18 +26,26 @@ fn table(a: u64, b: u64) -> [u64; 16]
     [pp, b, b, mp, a, 0, 0, na, a, 0, 0, na, pm, nb, nb, mm]
 }
 
+// Writes a table's entries from start on, and leaves what stands before them.
+pub fn write_entries(entries: [u64; 16], start: usize, tables: &mut [u64])
+    requires { ⌜ start + 16 ≤ length (now tables) ⌝ }
+    ensures { λ _. ⌜ ((k : ℕ) → k < 16 → getD (now (tables .exit)) (start + k) 0 ≡ getD entries k 0) ⌝ }
+    ensures { λ _. ⌜ ((i : ℕ) → i < start → getD (now (tables .exit)) i 0 ≡ getD (now (tables .entry)) i 0) ⌝ }
+{
+    let mut k = 0;
+    while k < 16 {
+        tables[start + k] = entries[k];
+        k += 1;
+    }
+}
+
 // Writes the table of two coordinates from start on.
 fn write_table(a: u64, b: u64, start: usize, tables: &mut [u64])
     requires { ⌜ ((a < p64) × (b < p64)) × (start + 16 ≤ length (now tables)) ⌝ }
     ensures { λ _. ⌜ ((k : ℕ) → k < 16 → Entry p64 a b k (getD (now (tables .exit)) (start + k) 0)) ⌝ }
     ensures { λ _. ⌜ ((i : ℕ) → i < start → getD (now (tables .exit)) i 0 ≡ getD (now (tables .entry)) i 0) ⌝ }
 {
-    let entries = table(a, b);
-    let mut k = 0;
-    while k < 16 {
-        tables[start + k] = entries[k];
-        k += 1;
-    }
+    write_entries(table(a, b), start, tables);
 }
 
 // The element at k, or 0 past the end.
