@@ -6,11 +6,11 @@
 #: make load           reports of made-up gradients, their checksum and time; SEED, REPORTS and the inputs (docs/LOAD.md)
 #:                     needs the kit; about 2 minutes from nothing, seconds where all is proved
 #: make test           the gate: proves every crate from nothing, tries the edits that must fail, runs the programs
-#:                     needs the kit; up to an hour on two threads of one core
+#:                     needs the kit; about 40 minutes on two processors
 #: make edits          tries the edits that the gate leaves out (tests/edits); CRATES names some
 #:                     needs the kit; about 40 minutes where all is proved
 #: make lib            build/libpine_c.a, proved, with pine.h beside it
-#:                     needs the kit; about 6 minutes from nothing, seconds where all is proved
+#:                     needs the kit; about 10 minutes from nothing, seconds where all is proved
 #: make install        copies both, and a file for pkg-config, under PREFIX (/usr/local); DESTDIR goes before that
 #:                     needs make lib, once; at once
 #: make example        make lib, then builds the C example with gcc and with g++, and runs it
@@ -44,10 +44,10 @@ load:
 	@SEED='$(SEED)' REPORTS='$(REPORTS)' N='$(N)' D='$(D)' F='$(F)' C='$(C)' E='$(E)' T='$(T)' K='$(K)' NUM='$(NUM)' DEN='$(DEN)' \
 		RULE='$(RULE)' SWITCH='$(SWITCH)' examples/load/run
 
-# .ci/run runs this. Four at a time, on fewer processors too: rt waits for all that it began, and of two one is often alone
+# .ci/run runs this
 test:
 	$(kit)
-	RT_JOBS=$${RT_JOBS:-4} rt ci
+	rt ci
 
 # those beside crates/*/must-fail, which the gate tries
 edits:
@@ -58,7 +58,7 @@ edits:
 lib:
 	$(kit)
 	@mkdir -p build
-	@echo "proving the calls and all that they stand on: about 6 minutes from nothing, seconds where all is proved;" \
+	@echo "proving the calls and all that they stand on: about 10 minutes from nothing, seconds where all is proved;" \
 		"build/lib.log has the prover's notes"
 	@rt staticlib pine_c >build/lib.log 2>&1 || \
 		{ tail -n 40 build/lib.log >&2; echo "not proved: build/lib.log has it whole" >&2; exit 1; }
