@@ -17,7 +17,7 @@
  * a row has two words to an element, and its length is in words (pine128_words).
  *
  * Answers. number 0 and place 0: accepted, the arguments were in order. Otherwise number is the first rule broken, in
- * the order 1 to 6, 19, 7, 14, 13, 12, 23, 15, 16, 8 with 17, 9, 21, 10, 18, 11 or 20 in its place, and place is where
+ * the order 1 to 6, 19, 7, 14, 13, 12, 15, 16, 23, 8 with 17, 9, 21, 10, 18, 11 or 20 in its place, and place is where
  * (enum PineRule; pine_rule_text has each in words). A refused call leaves every row as it was. An accepted call
  * writes every element of its output rows and reads none of what they held before (of an aggregate that is added to or
  * taken from: argument and result; of a file that is added to, the second row is written up to the new length, and no

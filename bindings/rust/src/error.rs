@@ -20,7 +20,7 @@ pub struct Error {
 macro_rules! rules {
     ($($(#[$doc:meta])* $name:ident = $number:literal: $sentence:literal,)*) => {
         /// The rules. A call tests its rules in one order and answers with the first that is broken: 1 to 6, 19, 7, 14,
-        /// 13, 12, 23, 15, 16, 8 with 17, 9, 21, 10, 18, 11 or 20. docs/PINE.md of the project, "The rules", has the
+        /// 13, 12, 15, 16, 23, 8 with 17, 9, 21, 10, 18, 11 or 20. docs/PINE.md of the project, "The rules", has the
         /// table.
         #[derive(Clone, Copy, Debug, PartialEq, Eq, Hash)]
         #[non_exhaustive]
