@@ -30,12 +30,17 @@ module _ (xs d a : List ℕ) (i : ℕ) (whole : Whole d) (same : length xs ≡ l
   pub same-elements : length (elementsOf a) ≡ length (elementsOf d)
   same-elements = same-number a d (inv .1)
 
-  -- the element that stands at i is as it was
+  -- the words that stand at i, and the element, are as they were
+  pub words-kept : i < length (elementsOf d) → (getD a (2 * i) 0 ≡ getD d (2 * i) 0) × (getD a (2 * i + 1) 0 ≡ getD d (2 * i + 1) 0)
+  words-kept h = (
+    rw (inv .2) (walked-past (wordsOf xs) d (2 * i) (2 * i) words-same (omega arith) (omega arith)),
+    rw (inv .2) (walked-past (wordsOf xs) d (2 * i) (2 * i + 1) words-same (omega arith) (omega arith)),
+  )
+
   pub element-kept : i < length (elementsOf d) → getD (elementsOf a) i 0 ≡ getD (elementsOf d) i 0
   element-kept h =
-      let l : getD a (2 * i) 0 ≡ getD d (2 * i) 0 = rw (inv .2) (walked-past (wordsOf xs) d (2 * i) (2 * i) words-same (omega arith) (omega arith)) in
-      let k : getD a (2 * i + 1) 0 ≡ getD d (2 * i + 1) 0 = rw (inv .2) (walked-past (wordsOf xs) d (2 * i) (2 * i + 1) words-same (omega arith) (omega arith)) in
-      element-at a i (omega (arith, same-elements)) ∙ (λ j. number (l j) (k j)) ∙ sym (element-at d i h)
+      let k = words-kept h in
+      element-at a i (omega (arith, same-elements)) ∙ (λ j. number (k .0 j) (k .1 j)) ∙ sym (element-at d i h)
 
   -- a turn: two words are stored
   pub element-next : i < length (elementsOf d) → (low high : ℕ) → low < 2 ^ 64 → number low high ≡ getD xs i 0 → Walking (wordsOf xs) d (set (set a (2 * i) low) (2 * i + 1) high) (2 * (i + 1))
@@ -71,6 +76,10 @@ module _ (f : ℕ → ℕ → ℕ) (d s a : List ℕ) (i : ℕ) (whole : Whole d
   -- both rows have an element at i
   pub pairing-room : i < length (elementsOf d) → (i < length (elementsOf a)) × (i < length (elementsOf s))
   pairing-room h = (omega (arith, same-elements made d a i whole long inv), omega (arith, alike))
+
+  -- and the words of the first are as they were
+  pub pairing-kept : i < length (elementsOf d) → (getD a (2 * i) 0 ≡ getD d (2 * i) 0) × (getD a (2 * i + 1) 0 ≡ getD d (2 * i + 1) 0)
+  pairing-kept h = words-kept made d a i whole long inv h
 
   pub pairing-below : (n x y : ℕ) → Below n (elementsOf d) × Below n (elementsOf s) → i < length (elementsOf d) → x ≡ getD (elementsOf a) i 0 → y ≡ getD (elementsOf s) i 0 → (x < n) × (y < n)
   pairing-below n x y b h e g = (

@@ -5,8 +5,8 @@ use Prim.Native.Nat.{ℕ, zero, suc, _+_, _-_, _*_, _%_, _^_, _≤_, _<_}
 use native.Mathlib.Nat.{mul-le-mul-right, lt-of-mul-lt-mul-right}
 use native.Mathlib.Omega.{arith}
 use lib.Bits.{bitAnd, bitOr}
-use lib.Dec.{ltb, eqb, lit≤}
-use borrow.Author.Tests.{ne-eqb, ltb-true, ltb-false}
+use lib.Dec.{leb, ltb, eqb, lit≤}
+use borrow.Author.Tests.{ne-eqb, ltb-true, ltb-false, leb-true, leb-false}
 use Rattle.rows.proofs.Blocks.{carry-gives}
 use Rattle.field128.specs.Field128.{p128, number}
 
@@ -55,3 +55,21 @@ seen-bad p x r f h = go (ltb x p) refl
     go : (t : Bool) → ltb x p ≡ t → p ≤ x
     go true e = absurd (omega (arith, f (ltb-true x p e)))
     go false e = ltb-false x p e
+
+-- ---- one element by its upper word
+
+-- u is the last upper word of a number below p beside this lower one
+tells : (p u high n : ℕ) → (high ≤ u → n < p) → (n < p → high ≤ u) → ltb u high ≡ leb p n
+tells p u high n f g = go (ltb u high) (leb p n) refl refl
+  where
+    go : (s t : Bool) → ltb u high ≡ s → leb p n ≡ t → s ≡ t
+    go true true d e = refl
+    go true false d e = absurd (omega (arith, ltb-true u high d, g (leb-false p n e)))
+    go false true d e = absurd (omega (arith, leb-true p n e, f (ltb-false u high d)))
+    go false false d e = refl
+
+pub upper-tells : (low high u : ℕ) → low < 2 ^ 64 → u ≡ cond (eqb low 0) 18446744073709551588 18446744073709551587 → ltb u high ≡ leb p128 (number low high)
+upper-tells zero high u l e = tells p128 u high (number 0 high) (λ h. zero-below (2 ^ 64) 18446744073709551588 high (omega arith)) (λ h. omega (arith, below-zero (2 ^ 64) 18446744073709551588 high (omega arith) h))
+upper-tells (suc low) high u l e =
+    let f : u ≡ 18446744073709551587 = e ∙ ap (λ (t : Bool). cond t 18446744073709551588 18446744073709551587) (ne-eqb (suc low) 0 (λ z. omega arith)) in
+    tells p128 u high (number (suc low) high) (λ h. some-below (2 ^ 64) 18446744073709551588 high low l (omega arith)) (λ h. omega (arith, below-some (2 ^ 64) 18446744073709551588 high low h))

@@ -3,6 +3,7 @@
 use field128::Element;
 use rules::Answer;
 
+pub mod adding;
 pub mod scan;
 
 ghost use mathlib.Core.Path.{_≡_};
@@ -10,13 +11,13 @@ ghost use mathlib.Core.List.{_++_};
 ghost use Prim.Native.Nat.{_+_, _*_, _<_, _^_};
 ghost use lib.ListN.{length, getD, set};
 ghost use Rattle.rules.specs.Rules.{first};
-ghost use Rattle.rows.specs.Rows.{elementsFrom, elementsRule, Below, addRows, subRows};
+ghost use Rattle.rows.specs.Rows.{elementsFrom, elementsRule, Below, subRows};
 ghost use Rattle.field128.specs.Field128.{p128, numberOf, elementsOf, wordsOf, Whole};
 
-// The element at i.
-pub fn element(row: &[u64], i: usize) -> Element
+// The two words of the element at i.
+fn read(row: &[u64], i: usize) -> Element
     requires { ⌜ i < length (elementsOf (now row)) ⌝ }
-    ensures { λ r. ⌜ numberOf r ≡ getD (elementsOf (now (row .entry))) i 0 ⌝ }
+    ensures { λ r. ⌜ (r .low ≡ getD (now (row .entry)) (2 * i) 0) × (r .high ≡ getD (now (row .entry)) (2 * i + 1) 0) ⌝ }
 {
     let at = 2 * i;
     let next = at + 1;
@@ -24,6 +25,14 @@ pub fn element(row: &[u64], i: usize) -> Element
         low: row[at],
         high: row[next],
     }
+}
+
+// The element at i.
+pub fn element(row: &[u64], i: usize) -> Element
+    requires { ⌜ i < length (elementsOf (now row)) ⌝ }
+    ensures { λ r. ⌜ numberOf r ≡ getD (elementsOf (now (row .entry))) i 0 ⌝ }
+{
+    read(row, i)
 }
 
 // Sets the element at i.
@@ -63,21 +72,6 @@ pub fn or_elements(so_far: Answer, left: &[u64], right: &[u64]) -> Answer
     let in_left = check_elements(left, 0);
     let in_right = check_elements(right, left.len() / 2);
     in_left.or(in_right)
-}
-
-// Adds share to agg by element. Rows, or parts of rows, of field numbers.
-pub fn add_rows(agg: &mut [u64], share: &[u64])
-    requires { ⌜ Whole (now agg) × (length (now agg) ≡ length (now share)) ⌝ }
-    requires { ⌜ Below p128 (elementsOf (now agg)) × Below p128 (elementsOf (now share)) ⌝ }
-    ensures { λ _. ⌜ now (agg .exit) ≡ wordsOf (addRows p128 (elementsOf (now (agg .entry))) (elementsOf (now (share .entry)))) ⌝ }
-{
-    let n = agg.len() / 2;
-    let mut i = 0;
-    while i < n {
-        let sum = field128::add(element(agg, i), element(share, i));
-        store(agg, i, sum);
-        i += 1;
-    }
 }
 
 // Takes share from agg by element. Rows, or parts of rows, of field numbers.

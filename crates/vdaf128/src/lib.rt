@@ -161,12 +161,11 @@ pub fn empty_aggregate(param: PineParam, row: &mut [u64]) -> Answer
 pub fn accumulate(param: PineParam, agg: &mut [u64], share: &[u64]) -> Answer
     ensures { λ r. ⌜ outcome r (now (agg .exit)) ≡ accumulateOf Field128 param (now (agg .entry)) (now (share .entry)) ⌝ }
 {
-    let answer = check_accumulate(param, agg, share);
-    if answer.number != 0 {
-        return answer;
+    let lens = check_lens(param, agg.len(), share.len());
+    if lens.number != 0 {
+        return lens;
     }
-    rows128::add_rows(agg, share);
-    answer
+    rows128::adding::add_elements(agg, share)
 }
 
 // Adds another aggregate to an aggregate: the same adding.
