@@ -1,4 +1,4 @@
--- A number that is added to an element before it is known to be one, and taken off again where it is none. Assumes nothing.
+-- A number that is added to an element before it is known to be one, and taken off again where it is none. No public contract cites this. Assumes nothing.
 use Prim.Native.Nat.{ℕ, _%_, _^_}
 use mathlib.Core.Bool.{cond}
 use lib.Dec.{ltb}

@@ -1,5 +1,4 @@
--- Laws of rows of Field128's elements: `Words` of rows of words, `ByPairs` of loops that make one row of two, in place and element by element, `Carries` of how rule 12 is tested, `OneRun` of that beside adding; `Examples`: worked examples.
-pub mod Words
+-- Laws of rows of Field128's elements: `ByPairs` of loops that make one row of two, in place and element by element, `Carries` of how rule 12 is tested, `OneRun` of that beside adding; `Examples`: worked examples.
 pub mod ByPairs
 mod Carries
 mod OneRun

@@ -18,7 +18,8 @@ struct Run {
     below: u64,
 }
 
-// Joins share's elements to agg's, up to the first of agg's that is not below p.
+// Joins share's elements to agg's, up to the first of agg's that is not below p. What was read had words below 2^64, which
+// of a row nobody knows before it is read: so parting gives back the words, and not only the elements.
 fn join_rows(agg: &mut [u64], share: &[u64]) -> Run
     requires { ⌜ Whole (now agg) × (length (now agg) ≡ length (now share)) ⌝ }
     ensures { λ r. ⌜ now (agg .exit) ≡ take (2 * r .done) (wordsOf (byElement joined (elementsOf (now (agg .entry))) (elementsOf (now (share .entry))))) ++ drop (2 * r .done) (now (agg .entry)) ⌝ }
