@@ -100,7 +100,14 @@ parted-above r b x k l lr lb lx e =
     difference (2 ^ 128) (r % 2 ^ 128) b x k (lit< tt) lx (le-of-lt lb) (e ∙ sym (ap (λ (n : ℕ). n + k * 2 ^ 128) (mod-eq-of-lt lr)))
     ∙ sym (ap (λ (t : Bool). subMod (cond t p128 (2 ^ 128)) (r % cond t p128 (2 ^ 128)) b) (le-ltb b p128 l))
 
--- what the flag of a test says
+-- what the flag of a test is, and says
+pub flag-fits : (b n : ℕ) → n ≡ cond (ltb b p128) 1 0 → n ≤ 1
+flag-fits b n e = go (ltb b p128) e
+  where
+    go : (t : Bool) → n ≡ cond t 1 0 → n ≤ 1
+    go true e = omega arith
+    go false e = omega arith
+
 pub so-below : (b : ℕ) → _≡_ {A = ℕ} (cond (ltb b p128) 1 0) 1 → b < p128
 so-below b e = go (ltb b p128) refl e
   where

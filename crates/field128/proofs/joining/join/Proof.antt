@@ -1,10 +1,7 @@
 -- `field128::joining::join` meets its contract. Assumes nothing.
-use mathlib.Core.Path.{subst, sym}
-use mathlib.Core.Bool.{Bool, true, false, cond}
-use Prim.Native.Nat.{ℕ, _^_, _≤_, _<_}
-use lib.Dec.{ltb, lit≤}
-use Rattle.field128.specs.Field128.{p128, numberOf}
-use Rattle.field128.proofs.Joined.{joined-is}
+use Prim.Native.Nat.{_^_, _<_}
+use Rattle.field128.specs.Field128.{numberOf}
+use Rattle.field128.proofs.Joined.{joined-is, flag-fits}
 use borrow.Author.Needs.{needs}
 use Rattle.field128.proofs.joining.join.Statement.{statement}
 use Rattle.field128.proofs.joining.join.Tie as tie
@@ -29,10 +26,6 @@ pick-requires c κs = search needs
 
 pick-requires-2 : tie.Need-pick-requires-2
 pick-requires-2 c κs = search needs
-
-bit : (t : Bool) → _≤_ (cond t 1 0) 1
-bit true = lit≤ tt
-bit false = lit≤ tt
 
 b-words : (c : tie.Start) → (c .args .b .low < 2 ^ 64) × (c .args .b .high < 2 ^ 64)
 b-words c = (search needs, search needs)
@@ -69,7 +62,7 @@ returns c =
     let xl = x .plus2 .result in
     let yl = y .plus-with2 .result in (
       joined-is (a .low) (a .high) (b .low) (b .high) (r .low) (r .high) (t .without-p .result .below) (ul .low) (ul .high) (vl .low) (vl .high) (xl .low) (xl .high) (yl .low) (yl .high) _ _ (s .pre)
-          (b-words s .0) (b-words s .1) (rest-words t .0) (rest-words t .1) (less-low u) (less-high v) (whole-low x) (whole-high y) (subst (λ (n : ℕ). n ≤ 1) (sym (t .without-p .ensures .1)) (bit (ltb (numberOf b) p128))) (v .plus-with .ensures .1)
+          (b-words s .0) (b-words s .1) (rest-words t .0) (rest-words t .1) (less-low u) (less-high v) (whole-low x) (whole-high y) (flag-fits (numberOf b) _ (t .without-p .ensures .1)) (v .plus-with .ensures .1)
           (t .without-p .ensures .0) (u .plus .ensures .0) (v .plus-with .ensures .0) (x .plus2 .ensures .0) (y .plus-with2 .ensures .0) (q .pick .ensures) (c .pick2 .ensures),
       t .without-p .ensures .1,
     )

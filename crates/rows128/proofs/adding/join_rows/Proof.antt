@@ -1,10 +1,8 @@
 -- `rows128::adding::join_rows` meets its contract. Assumes nothing.
 use mathlib.Core.Path.{_≡_, refl, sym, subst, _∙_}
-use mathlib.Core.Bool.{Bool, true, false, cond}
 use mathlib.Core.List.{List, []}
 use Prim.Native.Nat.{ℕ, _+_, _-_, _*_, _/_, _^_, _≤_, _<_}
 use native.Mathlib.Omega.{arith}
-use lib.Dec.{ltb, lit≤}
 use borrow.Author.Needs.{needs}
 use borrow.Author.Tests.{leb-true, leb-false}
 use lib.ListN.{length, getD, take, drop, drop-of-length-le}
@@ -12,7 +10,7 @@ use Rattle.rows.specs.Rows.{firstBad, Below}
 use Rattle.rows.proofs.Elements.{bad-next, bad-here}
 use Rattle.field128.specs.Field128.{p128, number, numberOf, elementsOf}
 use Rattle.field128.specs.Joined.{joined}
-use Rattle.field128.proofs.Joined.{word-pair}
+use Rattle.field128.proofs.Joined.{word-pair, flag-fits}
 use Rattle.field128.proofs.Pairs.{elements-length, element-at, element-inside}
 use Rattle.rows128.proofs.ByPairs.{Pairing, pairing-room, pairing-kept, pairing-next}
 use Rattle.rows128.proofs.OneRun.{Counted, counted-none, counted-next, below-next, words-next}
@@ -110,10 +108,6 @@ store-requires c κs =
 fits : (b i n t : ℕ) → b ≤ i → i < n → n < 2 ^ 64 → t ≤ 1 → b + t < 2 ^ 64
 fits b i n t h k l m = omega arith
 
-bit : (t : Bool) → _≤_ (cond t 1 0) 1
-bit true = lit≤ tt
-bit false = lit≤ tt
-
 words-fit : (c : tie.Start Inv-loop μ-loop) → length (elementsOf (c .args .agg .now)) < 2 ^ 64
 words-fit c =
     let e = elements-length (c .args .agg .now) in
@@ -125,7 +119,7 @@ add-below c =
     let b = r .before .before .before .before in
     let l = b .before .before .before in
     let s = l .before .before .before in
-    record { fits = fits (l .loop .below) (l .loop .i) _ _ (l .loop .inv .1 .1 .1 .0) (inside b) (words-fit s) (subst (λ (n : ℕ). n ≤ 1) (sym (r .join .ensures .1)) (bit (ltb (numberOf (r .before .element .result)) p128))) }
+    record { fits = fits (l .loop .below) (l .loop .i) _ _ (l .loop .inv .1 .1 .1 .0) (inside b) (words-fit s) (flag-fits (numberOf (r .before .element .result)) _ (r .join .ensures .1)) }
 
 add-i : tie.Need-add-i Inv-loop μ-loop
 add-i c = search needs
