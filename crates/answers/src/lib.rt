@@ -1,4 +1,6 @@
 // The answers that several commands of replay give.
+#![tactic(auto)]
+
 use rules::Answer;
 
 pub mod print;

@@ -1,5 +1,7 @@
 // Internal: a block of tests that have few bytes in all, straight from the stream: what tables or a row of weights would save
 // here is less than it takes to make them. A function here asks its caller for what it does not test itself.
+#![tactic(auto)]
+
 ghost use Rattle.std.specs.Prelude.{◌≡◌, ◌+◌, ◌*◌, ◌%◌, ◌^◌, ◌≤◌, ◌<◌, length};
 ghost use Rattle.field64.specs.Field.{p64};
 ghost use Rattle.rows.specs.Rows.{Below};

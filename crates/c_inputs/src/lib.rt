@@ -1,5 +1,7 @@
 // Internal: the inputs as C has them. A row's length and a number cross to C as they are; an enum and a bool do not, for C may
 // put any byte there.
+#![tactic(auto)]
+
 ghost use Rattle.std.specs.Prelude.{◌≡◌};
 ghost use Rattle.c_inputs.specs.Bytes.{rule_of, switch_of, param_of};
 
@@ -8,7 +10,7 @@ use pine::{PineParam, WrTestRule};
 // The inputs as C has them. The rule of the tests and the switch are one byte each: 0 for the first rule
 // or off, any other for the second or on.
 #[repr(C)]
-#[derive(Drop)]
+#[derive(Clone, Copy)]
 pub struct Inputs {
     pub norm_bound: u64,
     pub dimension: u64,

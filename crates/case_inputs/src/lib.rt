@@ -1,4 +1,6 @@
 // Of `replay`: the inputs of a case, the lengths of the rows that its call is lent, and rows of bytes.
+#![tactic(auto)]
+
 use lines::words;
 use lines::words::Cursor;
 use pine::{Derived, PineParam, WrTestRule};
@@ -8,7 +10,7 @@ pub mod bytes;
 ghost use Rattle.std.specs.Prelude.{◌≤◌};
 
 // The inputs that stand before a case, `with NUM DEN RULE SWITCH`, and where the case begins.
-#[derive(Drop)]
+#[derive(Clone, Copy)]
 pub struct Later {
     pub alpha_numerator: u16,
     pub alpha_denominator: u16,
@@ -18,7 +20,7 @@ pub struct Later {
 }
 
 // The number, and whether it has no more bits than its input.
-#[derive(Drop)]
+#[derive(Clone, Copy)]
 struct Narrow {
     value: u16,
     ok: bool,
@@ -52,7 +54,7 @@ pub fn read_later(line: &[u8]) -> Later {
     let w = words::next_word(line, Cursor::new());
     let start = w.start;
     let end = w.end;
-    if !check::same(&line[start..end], b"with") {
+    if !&line[start..end] == b"with" {
         return Later {
             alpha_numerator: 87,
             alpha_denominator: 10,
@@ -82,7 +84,7 @@ pub fn read_later(line: &[u8]) -> Later {
     }
 }
 
-#[derive(Drop)]
+#[derive(Clone, Copy)]
 pub struct ReadParam {
     pub param: PineParam,
     pub next: Cursor,
@@ -133,7 +135,7 @@ fn words_of(len: u64, wide: bool) -> u64 {
 }
 
 // The dimension, and derived lengths of rows in words: 0 where the inputs are refused.
-#[derive(Drop)]
+#[derive(Clone, Copy)]
 pub struct Lens {
     pub dimension: u64,
     pub aggregate: u64,
@@ -153,7 +155,7 @@ pub fn lens_of(param: PineParam, wide: bool) -> Lens {
 }
 
 // The length of a lent row, where all is well with the line.
-#[derive(Drop)]
+#[derive(Clone, Copy)]
 pub struct Lent {
     pub ok: bool,
     pub len: usize,
@@ -181,7 +183,7 @@ pub fn lent_row(line: &[u8], c: Cursor, derived: u64, room: usize) -> Lent
     fit(ok, lens[0], room)
 }
 
-#[derive(Drop)]
+#[derive(Clone, Copy)]
 pub struct LentTwo {
     pub ok: bool,
     pub first: usize,
@@ -203,7 +205,7 @@ pub fn lent_rows(line: &[u8], c: Cursor, derived: [u64; 2], room_1: usize, room_
     }
 }
 
-#[derive(Drop)]
+#[derive(Clone, Copy)]
 pub struct LentThree {
     pub ok: bool,
     pub first: usize,

@@ -2,6 +2,8 @@
 // into a row of sums, and the three sums of a test are its result. Many tests go by tables of all three limbs,
 // modulo 2^64; few go limb by limb by Field64's weights. A function here asks its caller for what it does not
 // test itself.
+#![tactic(auto)]
+
 ghost use Rattle.std.specs.Prelude.{◌≡◌, ◌+◌, ◌*◌, ◌≤◌, ◌<◌, length};
 ghost use Rattle.field64.specs.Field.{p64};
 ghost use Rattle.rows.specs.Rows.{Below};

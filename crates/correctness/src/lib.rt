@@ -1,5 +1,7 @@
 // Statements about the definitions themselves, each as what a function ensures that does nothing: so
 // the check asks for their proofs.
+#![tactic(auto)]
+
 ghost use Rattle.pine.specs.Param.{Field64};
 ghost use Rattle.correctness.specs.Table.{Table};
 ghost use Rattle.correctness.specs.Correctness.{Correctness, EveryDecodable};

@@ -1,5 +1,7 @@
 // Cutting a report: both measurement shares and the two joint randomness seeds (`shard_with_rand` of pine/vdaf.rs of the
 // Rust, up to the proofs). Nothing is written before the last rule is met.
+#![tactic(auto)]
+
 ghost use Rattle.std.specs.Prelude.{◌≡◌, ◌≤◌, length};
 ghost use Rattle.sums.specs.Unreduced.{words_of};
 ghost use Rattle.doubles.specs.Doubles.{floor_limit64, power};

@@ -1,6 +1,8 @@
 // The day's file (docs/PINE.md, "The day's file"): aggregates by address and valve in one row of bytes,
 // read, written, and its greatest length. Each public call takes any arguments; a function named check_*
 // decides its answer and writes nothing.
+#![tactic(auto)]
+
 ghost use Rattle.std.specs.Prelude.{◌≡◌, ◌+◌, ◌*◌, ◌≤◌, ◌<◌, min, length};
 ghost use Rattle.rules.specs.Rules.{first};
 ghost use Rattle.field64.specs.Field.{p64};
@@ -15,7 +17,7 @@ use rules::Answer;
 
 // A length in bytes, which is 0 beside a refusal.
 #[repr(C)]
-#[derive(Drop)]
+#[derive(Clone, Copy)]
 pub struct FileLen {
     pub answer: Answer,
     pub len: u64,

@@ -1,6 +1,8 @@
 // A day on the farm, a tutorial of the calls that take a report from its gradient to the sums: two controllers
 // with twelve valves each, a report of each valve, two servers. report.rt, day_files.rt, filing.rt, trial.rt and
 // probe.rt have the steps, numbered 1 to 12.
+#![tactic(auto)]
+
 mod day;
 mod day_files;
 mod filing;

@@ -2,6 +2,8 @@
 // f64_to_field and field_to_f64, answer for any arguments. The other pub functions are for the crates
 // above: rule 4, the scale 2^frac_bits, which a row's caller makes once, and what loops over rows call
 // with it.
+#![tactic(auto)]
+
 ghost use Rattle.std.specs.Prelude.{◌≡◌, ◌-◌, ◌*◌, ◌/◌, ◌^◌, ◌<◌, ◌≤◌, true, false, not};
 ghost use Rattle.field64.specs.Field.{p64};
 ghost use Rattle.doubles.specs.Doubles.{frac_bits_rule, floor_limit64, size_limit64, power, unusable, coordinate_rule, element, encoded, coordinate_of, centred, decoded, decoded_of};
@@ -34,7 +36,7 @@ const DIGITS_SUM: f64 = 19342822341709703277445120.0;
 
 // An element, which is 0 beside a refusal.
 #[repr(C)]
-#[derive(Drop)]
+#[derive(Clone, Copy)]
 pub struct Coordinate {
     pub answer: Answer,
     pub element: u64,
@@ -42,7 +44,7 @@ pub struct Coordinate {
 
 // A double, which is +0 beside a refusal.
 #[repr(C)]
-#[derive(Drop)]
+#[derive(Clone, Copy)]
 pub struct Decoded {
     pub answer: Answer,
     pub value: f64,

@@ -1,5 +1,7 @@
 // A double as an element of Field128, and back: crates/doubles defines both over any field. The two public
 // calls are f64_to_field and field_to_f64; the other pub functions are for the crates above, as there.
+#![tactic(auto)]
+
 ghost use Rattle.std.specs.Prelude.{◌≡◌, ◌<◌, ◌≤◌, true, false, not, ◌==◌, nat_le, nat_lt, unsigned_abs};
 ghost use Rattle.std.specs.Float.Ieee.{lt};
 ghost use Rattle.field128.specs.Field128.{p128, number_of};
@@ -30,14 +32,14 @@ const DIGITS_SUM: f64 = 19342831565081740132220928.0;
 
 // An element, which is 0 beside a refusal.
 #[repr(C)]
-#[derive(Drop)]
+#[derive(Clone, Copy)]
 pub struct Coordinate128 {
     pub answer: Answer,
     pub element: Element,
 }
 
 // A whole number's 32 lowest bits, and the rest as a number of Field64.
-#[derive(Drop)]
+#[derive(Clone, Copy)]
 pub struct Limbs {
     pub low: u64,
     pub high: u64,

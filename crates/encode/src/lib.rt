@@ -1,4 +1,6 @@
 // Encoding a gradient (`encode_with_wr_joint_rand` of pine/flp.rs of the Rust).
+#![tactic(auto)]
+
 ghost use Rattle.std.specs.Prelude.{◌≡◌, ◌*◌, ◌≤◌, ◌<◌, min, length};
 ghost use Rattle.rules.specs.Rules.{accepted};
 ghost use Rattle.field64.specs.Field.{p64};

@@ -1,5 +1,7 @@
 // Encoding a gradient over Field128: as crates/encode does it over Field64, with rows of two words to an element. Where a
 // gradient is accepted, its squared norm and the results that count are small: rules and bits are Field64's, on these.
+#![tactic(auto)]
+
 ghost use Rattle.std.specs.Prelude.{◌≡◌, ◌%◌, min, length};
 ghost use Rattle.rules.specs.Rules.{accepted};
 ghost use Rattle.sums.specs.Unreduced.{words_of as sum_of};

@@ -7,7 +7,7 @@ ghost use Rattle.field128.specs.Joined.{joined, parted};
 use crate::{Element, P_HIGH, Wide, product, words};
 
 // What is made of a number b, and 1 where b is below p, 0 where not.
-#[derive(Drop)]
+#[derive(Clone, Copy)]
 pub struct Tested {
     pub made: Element,
     pub below: u64,

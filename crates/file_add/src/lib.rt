@@ -1,5 +1,7 @@
 // Adding a report to a day's file (docs/PINE.md, "The day's file"). The public call takes any arguments; a function
 // named check_* decides its answer and writes nothing.
+#![tactic(auto)]
+
 ghost use Rattle.std.specs.Prelude.{◌≡◌, true, false, cond, not, ◌&&◌, leb, ◌+◌, ◌-◌, ◌*◌, ◌≤◌, ◌<◌, ◌^◌, length, take, drop};
 ghost use Rattle.rules.specs.Rules.{refuse, first};
 ghost use Rattle.field64.specs.Field.{p64};
@@ -14,7 +16,7 @@ use pine::PineParam;
 use rules::Answer;
 
 // Where a key is in contents, or would be: an index, whether the key is there, and its reports, 0 if not.
-#[derive(Drop)]
+#[derive(Clone, Copy)]
 pub struct Place {
     pub index: usize,
     pub held: bool,

@@ -1,4 +1,6 @@
 // Of `replay`: the commands on a day's file.
+#![tactic(auto)]
+
 use answers::{bad, print, refused, refused_lent};
 use case_inputs::{bytes, lens_of, lent_row, lent_rows, read_param};
 use day_file::FileLen;

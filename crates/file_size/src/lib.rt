@@ -1,5 +1,7 @@
 // The exact size of a day's file from the keys of its reports (docs/PINE.md, "The day's file"), with no row but the keys
 // and no heap. The public call takes any arguments.
+#![tactic(auto)]
+
 ghost use Rattle.std.specs.Prelude.{◌≡◌, true, [], ◌+◌, ◌*◌, ◌/◌, ◌≤◌, ◌<◌, length, get_or, take};
 ghost use Rattle.rules.specs.Rules.{first};
 ghost use Rattle.pine.specs.Param.{Field64, param_answer};
@@ -13,7 +15,7 @@ use pine::PineParam;
 use rules::Answer;
 
 // How many keys and counts are held after a key, or the refusal that it meets.
-#[derive(Drop)]
+#[derive(Clone, Copy)]
 pub struct Step {
     pub answer: Answer,
     pub held: usize,

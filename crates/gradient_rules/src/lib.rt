@@ -1,5 +1,7 @@
 // Internal: the rules on a gradient, 8 with 17, 9, 21, 10, and 11 or 20. A function here asks its caller for what it does
 // not test itself.
+#![tactic(auto)]
+
 ghost use Rattle.std.specs.Prelude.{◌≡◌, ◌≤◌};
 ghost use Rattle.rules.specs.Rules.{accepted, first};
 ghost use Rattle.field64.specs.Field.{p64};

@@ -1,5 +1,7 @@
 // Internal: rules 8 and 17 on a gradient over Field128, as crates/gradient_rules has them over Field64. A function here
 // asks its caller for what it does not test itself.
+#![tactic(auto)]
+
 ghost use Rattle.std.specs.Prelude.{◌≡◌};
 ghost use Rattle.rules.specs.Rules.{accepted};
 ghost use Rattle.doubles.specs.Doubles.{power};

@@ -1,10 +1,12 @@
 // Internal: the groups of columns by which the wraparound tests are taken: some bytes of every test, for the coordinates that
 // these stand for.
+#![tactic(auto)]
+
 ghost use Rattle.std.specs.Prelude.{◌≡◌, ◌≤◌, ◌<◌, min};
 ghost use Rattle.groups.specs.Groups.{group_from};
 
 // A group of columns: the byte at which it ends, and the coordinates from first to last.
-#[derive(Drop)]
+#[derive(Clone, Copy)]
 pub struct Group {
     pub end: usize,
     pub first: usize,

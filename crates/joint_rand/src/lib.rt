@@ -1,6 +1,8 @@
 // Joint randomness (`joint_rand_part` and `joint_rand_seed` of pine/vdaf.rs of the Rust). A server has its own part from its
 // share by the first, and the corrected seed from both parts by the second. `begin_part` and `into_seed` are internal: they
 // are for shares that are not in a row.
+#![tactic(auto)]
+
 ghost use Rattle.std.specs.Prelude.{◌≡◌, [], ◌<◌};
 ghost use Rattle.turboshake.specs.Stream.{absorb_all, start, finished, drawn};
 ghost use Rattle.joint_rand.specs.JointRand.{part_message, joint_rand_part, joint_rand_seed};

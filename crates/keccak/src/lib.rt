@@ -1,4 +1,6 @@
 // Keccak-p[1600, 12], the permutation of TurboSHAKE128, on 25 lanes: lane A[x, y] stands at x + 5 y.
+#![tactic(auto)]
+
 ghost use Rattle.std.specs.Prelude.{◌≡◌};
 ghost use Rattle.keccak.specs.Keccak.{keccak_p};
 ghost use Rattle.keccak.specs.Halves.{first_half, second_half};

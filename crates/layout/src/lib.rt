@@ -1,5 +1,7 @@
 // Internal: the layout of a day's file, as rules 7 and 14 test it. A function here asks its caller for
 // what it does not test itself.
+#![tactic(auto)]
+
 ghost use Rattle.std.specs.Prelude.{◌≡◌, ◌&&◌, ◌+◌, ◌*◌, ◌≤◌, ◌<◌, ◌^◌, length};
 ghost use Rattle.field64.specs.Field.{p64};
 ghost use Rattle.rows.specs.Rows.{row_rule};

@@ -1,6 +1,8 @@
 // Internal: many tests on a group of columns of Field128's elements, by tables: what each half of a byte makes of the limbs
 // of its two coordinates, modulo 2^64, made once for all tests. A byte of a test is read once for its three limbs, and no
 // sum is reduced. A function here asks its caller for what it does not test itself.
+#![tactic(auto)]
+
 ghost use Rattle.std.specs.Prelude.{◌≡◌, ℕ, ◌+◌, ◌*◌, ◌%◌, ◌^◌, ◌<◌, ◌≤◌, length, drop, slice_index};
 ghost use Rattle.field128.specs.Field128.{elements_of};
 ghost use Rattle.groups.specs.Groups.{add_group};
@@ -20,7 +22,7 @@ const MIDDLE: usize = 256;
 const HIGH: usize = 512;
 
 // What the entries of a test's bytes make for each limb.
-#[derive(Drop)]
+#[derive(Clone, Copy)]
 struct Sums {
     low: u64,
     middle: u64,

@@ -2,6 +2,8 @@
 // coordinates, some of them taken off, and of 65536 limbs that is less than 2^59 in size: so Field64 holds
 // it, a word modulo 2^64 too, and a test on elements is three tests on their limbs. A function here asks its
 // caller for what it does not test itself.
+#![tactic(auto)]
+
 ghost use Rattle.std.specs.Prelude.{◌≡◌, ◌*◌, ◌%◌, ◌^◌, ◌<◌, ◌≤◌, length};
 ghost use Rattle.field64.specs.Field.{p64, add_mod};
 ghost use Rattle.rows.specs.Rows.{Below};

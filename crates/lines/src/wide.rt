@@ -5,7 +5,7 @@ ghost use Rattle.lines.specs.Rows.{Counts};
 use crate::words;
 use crate::words::{Cursor, Row};
 
-#[derive(Drop)]
+#[derive(Clone, Copy)]
 pub struct Wide {
     pub low: u64,
     pub high: u64,
@@ -13,7 +13,7 @@ pub struct Wide {
 }
 
 // What the digits of a word stand for.
-#[derive(Drop)]
+#[derive(Clone, Copy)]
 struct Digits {
     low: u64,
     high: u64,
@@ -103,7 +103,7 @@ fn row_of_pairs(s: &[u8], c: Cursor, row: &mut [u64]) -> Row
     let w = words::next_word(s, c);
     let start = w.start;
     let end = w.end;
-    if check::same(&s[start..end], b"words") {
+    if &s[start..end] == b"words" {
         return words::elements(s, c.past(end, true), row);
     }
     pairs(s, c, row)

@@ -8,7 +8,7 @@ ghost use Rattle.lines.specs.Rows.{Counts};
 
 use crate::patterns::double_of;
 
-#[derive(Drop)]
+#[derive(Clone, Copy)]
 pub struct Cursor {
     // Where the next word is looked for.
     pub at: usize,
@@ -16,27 +16,27 @@ pub struct Cursor {
 }
 
 // The part of a line from start to end, empty where no word is left.
-#[derive(Drop)]
+#[derive(Clone, Copy)]
 pub struct Word {
     pub start: usize,
     pub end: usize,
 }
 
-#[derive(Drop)]
+#[derive(Clone, Copy)]
 pub struct Number {
     pub value: u64,
     pub next: Cursor,
 }
 
 // How many elements were put at the start of a lent row.
-#[derive(Drop)]
+#[derive(Clone, Copy)]
 pub struct Row {
     pub len: usize,
     pub next: Cursor,
 }
 
 // What the digits of a word stand for.
-#[derive(Drop)]
+#[derive(Clone, Copy)]
 struct Digits {
     value: u64,
     ok: bool,
@@ -278,7 +278,7 @@ pub fn bytes(s: &[u8], c: Cursor, row: &mut [u8]) -> Row
             next: c.past(end, false),
         };
     }
-    let paired = 0 < len && digits.len() % 2 == 0 || check::same(digits, b"-");
+    let paired = 0 < len && digits.len() % 2 == 0 || digits == b"-";
     let ok = fill_bytes(digits, row, len);
     Row {
         len,
@@ -297,7 +297,7 @@ pub fn ends(s: &[u8], c: Cursor) -> bool {
     let w = next_word(s, c);
     let start = w.start;
     let end = w.end;
-    c.ok & (start == end || check::same(&s[start..end], b"out"))
+    c.ok & (start == end || &s[start..end] == b"out")
 }
 
 fn fill_lens(s: &[u8], c: Cursor, lens: &mut [u64]) -> bool {
@@ -324,7 +324,7 @@ pub fn ends_with_lens(s: &[u8], c: Cursor, lens: &mut [u64]) -> bool {
     if start == end {
         return c.ok;
     }
-    if check::same(&s[start..end], b"out") {
+    if &s[start..end] == b"out" {
         fill_lens(s, c.past(end, true), lens)
     } else {
         false

@@ -1,4 +1,6 @@
 // Reads the text of a load from standard input, and writes its report (docs/LOAD.md).
+#![tactic(auto)]
+
 ghost use Rattle.std.specs.Prelude.{◌≡◌, length};
 
 use libc::{STDIN_FILENO, STDOUT_FILENO};

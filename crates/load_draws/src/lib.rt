@@ -1,4 +1,6 @@
 // The state of a load, and what is drawn from it: a made-up gradient, and its stream (docs/PINE.md, "A load").
+#![tactic(auto)]
+
 ghost use Rattle.std.specs.Prelude.{◌≡◌, map, length};
 ghost use Rattle.load_draws.specs.Draws.{step, states, after, coordinate, stream_byte, gradient_of, stream_of};
 

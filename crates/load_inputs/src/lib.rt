@@ -1,4 +1,6 @@
 // Internal: the inputs of a load, from the numbers of its text's lines, and the rules on them (docs/PINE.md, "A load").
+#![tactic(auto)]
+
 ghost use Rattle.std.specs.Prelude.{◌≡◌, cond, ◌≤◌, get_or, eqb};
 ghost use Rattle.rules.specs.Rules.{in_order};
 ghost use Rattle.pine.specs.declared.WrTestRule.TheVariants.{Every, Enough};

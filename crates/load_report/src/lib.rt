@@ -1,4 +1,6 @@
 // A load: a report of a made-up gradient, from the text of a seed and the inputs (docs/PINE.md, "A load").
+#![tactic(auto)]
+
 ghost use Rattle.std.specs.Prelude.{◌≡◌, [], ◌∷◌, ◌≤◌, ◌+◌, ◌*◌, length, take};
 ghost use Rattle.rules.specs.Rules.{first, in_order};
 ghost use Rattle.rows.specs.Outcome.{outcome};

@@ -1,4 +1,6 @@
 // Internal: the lines of a load's text (docs/PINE.md, "A load").
+#![tactic(auto)]
+
 ghost use Rattle.std.specs.Prelude.{◌≡◌, ◌≤◌, length, drop};
 ghost use Rattle.load_text.specs.Text.{is_digit, ends_at, digits_from, first_line, up_to, load_limits, numbers_of};
 ghost use Rattle.load_text.specs.Steps.{line_in, Appends, numbers_if};
@@ -20,14 +22,14 @@ const LIMITS: [u64; 12] = [
 ];
 
 // A number, with the index after its newline; or something else.
-#[derive(Drop)]
+#[derive(Clone, Copy)]
 pub enum Read {
     Other,
     Number { value: u64, next: usize },
 }
 
 // A number with a digit more.
-#[derive(Drop)]
+#[derive(Clone, Copy)]
 pub enum Appended {
     TooWide,
     To(u64),

@@ -1,5 +1,7 @@
 // Internal: writing a measurement, part by part. A function here asks its caller for what it does not
 // test itself.
+#![tactic(auto)]
+
 ghost use Rattle.std.specs.Prelude.{◌≡◌, cond, [], ◌∷◌, ◌++◌, ◌+◌, ◌-◌, ◌*◌, ◌≤◌, ◌<◌, length};
 ghost use Rattle.field64.specs.Field.{p64, add_mod, sub_mod};
 ghost use Rattle.doubles.specs.Doubles.{floor_limit64, power};

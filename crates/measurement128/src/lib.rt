@@ -1,5 +1,7 @@
 // Internal: writing a measurement over Field128. The bits are written as Field64's, one word each, and then spread: an
 // element is two words. A function here asks its caller for what it does not test itself.
+#![tactic(auto)]
+
 ghost use Rattle.std.specs.Prelude.{◌≡◌, ◌++◌, ◌+◌, ◌*◌, ◌/◌, ◌≤◌, ◌<◌, length, take};
 ghost use Rattle.field64.specs.Field.{p64, sub_mod};
 ghost use Rattle.doubles.specs.Doubles.{power};

@@ -1,5 +1,7 @@
 // Internal: what encoding over Field128 tests and writes is small where it is accepted: results of tests, and the squared
 // norm. It is handed on as Field64's, whose rules and writers then serve both. No branch depends on a number.
+#![tactic(auto)]
+
 ghost use Rattle.std.specs.Prelude.{◌≡◌, ◌-◌, ◌*◌, ◌^◌, ◌<◌, ◌≤◌, cond, map, length};
 ghost use Rattle.field64.specs.Field.{p64};
 ghost use Rattle.rows.specs.Rows.{Below};

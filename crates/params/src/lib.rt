@@ -1,4 +1,6 @@
 // The inputs of PINE: the rules on them, and the record derived from them.
+#![tactic(auto)]
+
 ghost use Rattle.std.specs.Prelude.{◌≡◌};
 ghost use Rattle.rules.specs.Rules.{refuse, first, in_order, out_of};
 ghost use Rattle.pine.specs.Param.{Field64, alpha_rule, param_rules_within, param_rules_up_to, param_answer};

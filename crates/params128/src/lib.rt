@@ -1,5 +1,7 @@
 // The inputs of PINE over Field128: the rules on them, and the record derived from them. Every length of the
 // record is in elements, as over Field64; a row of n elements has 2n words.
+#![tactic(auto)]
+
 ghost use Rattle.std.specs.Prelude.{◌≡◌};
 ghost use Rattle.pine.specs.Param.{param_answer};
 ghost use Rattle.pine.specs.Record.{derive_of};

@@ -1,4 +1,6 @@
 // The parts of a full vector: where each lies, and each handed back as a part of the caller's own row.
+#![tactic(auto)]
+
 use pine::PineParam;
 use pine::record::Pine;
 use rules::Answer;
@@ -15,7 +17,7 @@ ghost use Rattle.parts.specs.Places.{part_at, named, verdict_of};
 
 // A part of a row by its place: len elements from start on. Both are 0 beside a refusal.
 #[repr(C)]
-#[derive(Drop)]
+#[derive(Clone, Copy)]
 pub struct Part {
     pub answer: Answer,
     pub start: u64,
@@ -23,7 +25,7 @@ pub struct Part {
 }
 
 // The answer of the rules, and the record. Beside a refusal that is all 0, so that each part is empty.
-#[derive(Drop)]
+#[derive(Clone, Copy)]
 struct Verdict {
     answer: Answer,
     pine: Pine,

@@ -1,5 +1,7 @@
 // The parameters of PINE: the inputs and the record derived from them (pine/mod.rs of the Rust).
 // The rules on the inputs, and the public calls, are in params.
+#![tactic(auto)]
+
 ghost use Rattle.std.specs.Prelude.{◌≡◌};
 ghost use Rattle.pine.specs.Param.{standard};
 
@@ -9,7 +11,7 @@ use rules::Answer;
 pub mod record;
 
 // Which of the wraparound tests must be in range for a gradient to be encoded.
-#[derive(Drop)]
+#[derive(Clone, Copy)]
 pub enum WrTestRule {
     // All of them, as in the Rust.
     Every,
@@ -19,7 +21,7 @@ pub enum WrTestRule {
 
 // The inputs: the seven of the Rust, as it names them; its ALPHA as a fraction; the rule of the tests; and the switch
 // for the true squared norm.
-#[derive(Drop)]
+#[derive(Clone, Copy)]
 pub struct PineParam {
     pub norm_bound: u64,
     pub dimension: u64,
@@ -67,7 +69,7 @@ impl PineParam {
 
 // The record and every length; all 0 beside a refusal.
 #[repr(C)]
-#[derive(Drop)]
+#[derive(Clone, Copy)]
 pub struct Derived {
     pub answer: Answer,
     pub pine: Pine,

@@ -8,7 +8,7 @@ use crate::PineParam;
 
 // The derived record: the inputs that later calls read, and what follows from them.
 #[repr(C)]
-#[derive(Drop)]
+#[derive(Clone, Copy)]
 pub struct Pine {
     pub dimension: u64,
     pub frac_bits: u64,
@@ -32,7 +32,7 @@ pub struct Pine {
 
 // The lengths of one circuit's vectors, in elements.
 #[repr(C)]
-#[derive(Drop)]
+#[derive(Clone, Copy)]
 pub struct Lengths {
     pub input_len: u64,
     pub proof_len: u64,

@@ -113,16 +113,16 @@ fn decode128(line: &[u8], c: Cursor, out: &mut [u8], at: usize) -> usize {
 
 // The commands over Field128 on aggregates, but for those that take out.
 fn of_wide_aggregates(name: &[u8], line: &[u8], c: Cursor, out: &mut [u8], at: usize) -> usize {
-    if check::same(name, b"merge128") {
+    if name == b"merge128" {
         return aggregates::adding(line, c, out, at, Call::Merge, true);
     }
-    if check::same(name, b"accumulate128") {
+    if name == b"accumulate128" {
         return aggregates::adding(line, c, out, at, Call::Accumulate, true);
     }
-    if check::same(name, b"aggregate128") {
+    if name == b"aggregate128" {
         return aggregates::aggregate(line, c, out, at, true);
     }
-    if check::same(name, b"unshard128") {
+    if name == b"unshard128" {
         return aggregates::unshard(line, c, out, at, true);
     }
     bad(out, at)
@@ -130,10 +130,10 @@ fn of_wide_aggregates(name: &[u8], line: &[u8], c: Cursor, out: &mut [u8], at: u
 
 // Those that do, and those above.
 fn of_wide_withdrawals(name: &[u8], line: &[u8], c: Cursor, out: &mut [u8], at: usize) -> usize {
-    if check::same(name, b"subtract128") {
+    if name == b"subtract128" {
         return aggregates::adding(line, c, out, at, Call::Subtract, true);
     }
-    if check::same(name, b"unmerge128") {
+    if name == b"unmerge128" {
         return aggregates::adding(line, c, out, at, Call::Unmerge, true);
     }
     of_wide_aggregates(name, line, c, out, at)
@@ -141,16 +141,16 @@ fn of_wide_withdrawals(name: &[u8], line: &[u8], c: Cursor, out: &mut [u8], at: 
 
 // The commands over Field128 on a report or on the circuits, and those above.
 fn of_wide_reports(name: &[u8], line: &[u8], c: Cursor, out: &mut [u8], at: usize) -> usize {
-    if check::same(name, b"encode128") {
+    if name == b"encode128" {
         return report_cases::encode(line, c, out, at, false, true);
     }
-    if check::same(name, b"wrtests128") {
+    if name == b"wrtests128" {
         return report_cases::wrtests(line, c, out, at, false, true);
     }
-    if check::same(name, b"valid128") {
+    if name == b"valid128" {
         return circuits::valid(line, c, out, at, true);
     }
-    if check::same(name, b"valideq128") {
+    if name == b"valideq128" {
         return circuits::valideq(line, c, out, at, true);
     }
     of_wide_withdrawals(name, line, c, out, at)
@@ -158,13 +158,13 @@ fn of_wide_reports(name: &[u8], line: &[u8], c: Cursor, out: &mut [u8], at: usiz
 
 // The commands over Field128 on the inputs or one number, and those above.
 fn of_wide(name: &[u8], line: &[u8], c: Cursor, out: &mut [u8], at: usize) -> usize {
-    if check::same(name, b"params128") {
+    if name == b"params128" {
         return params(line, c, out, at, true);
     }
-    if check::same(name, b"coord128") {
+    if name == b"coord128" {
         return coord128(line, c, out, at);
     }
-    if check::same(name, b"decode128") {
+    if name == b"decode128" {
         return decode128(line, c, out, at);
     }
     of_wide_reports(name, line, c, out, at)
@@ -172,7 +172,7 @@ fn of_wide(name: &[u8], line: &[u8], c: Cursor, out: &mut [u8], at: usize) -> us
 
 // The command on a load, and those above.
 fn of_loads(name: &[u8], line: &[u8], c: Cursor, out: &mut [u8], at: usize) -> usize {
-    if check::same(name, b"load") {
+    if name == b"load" {
         return loads::load(line, c, out, at);
     }
     of_wide(name, line, c, out, at)
@@ -180,13 +180,13 @@ fn of_loads(name: &[u8], line: &[u8], c: Cursor, out: &mut [u8], at: usize) -> u
 
 // The commands on the parts of a full vector, and those above.
 fn of_vectors(name: &[u8], line: &[u8], c: Cursor, out: &mut [u8], at: usize) -> usize {
-    if check::same(name, b"gradient_part") {
+    if name == b"gradient_part" {
         return vectors::part(line, c, out, at, Which::Gradient);
     }
-    if check::same(name, b"checked_part") {
+    if name == b"checked_part" {
         return vectors::part(line, c, out, at, Which::Checked);
     }
-    if check::same(name, b"results_part") {
+    if name == b"results_part" {
         return vectors::part(line, c, out, at, Which::Results);
     }
     of_loads(name, line, c, out, at)
@@ -194,10 +194,10 @@ fn of_vectors(name: &[u8], line: &[u8], c: Cursor, out: &mut [u8], at: usize) ->
 
 // The commands on the circuits, and those above.
 fn of_circuits(name: &[u8], line: &[u8], c: Cursor, out: &mut [u8], at: usize) -> usize {
-    if check::same(name, b"valid") {
+    if name == b"valid" {
         return circuits::valid(line, c, out, at, false);
     }
-    if check::same(name, b"valideq") {
+    if name == b"valideq" {
         return circuits::valideq(line, c, out, at, false);
     }
     of_vectors(name, line, c, out, at)
@@ -205,10 +205,10 @@ fn of_circuits(name: &[u8], line: &[u8], c: Cursor, out: &mut [u8], at: usize) -
 
 // The commands that cut a report and that sample a share, and those above.
 fn of_cuts(name: &[u8], line: &[u8], c: Cursor, out: &mut [u8], at: usize) -> usize {
-    if check::same(name, b"cut") {
+    if name == b"cut" {
         return cuts::cut(line, c, out, at);
     }
-    if check::same(name, b"sample") {
+    if name == b"sample" {
         return cuts::sample(line, c, out, at);
     }
     of_circuits(name, line, c, out, at)
@@ -216,16 +216,16 @@ fn of_cuts(name: &[u8], line: &[u8], c: Cursor, out: &mut [u8], at: usize) -> us
 
 // The commands on a report, and those above.
 fn of_reports(name: &[u8], line: &[u8], c: Cursor, out: &mut [u8], at: usize) -> usize {
-    if check::same(name, b"encode") {
+    if name == b"encode" {
         return report_cases::encode(line, c, out, at, false, false);
     }
-    if check::same(name, b"wrtests") {
+    if name == b"wrtests" {
         return report_cases::wrtests(line, c, out, at, false, false);
     }
-    if check::same(name, b"encodeseed") {
+    if name == b"encodeseed" {
         return report_cases::encode(line, c, out, at, true, false);
     }
-    if check::same(name, b"wrtestsseed") {
+    if name == b"wrtestsseed" {
         return report_cases::wrtests(line, c, out, at, true, false);
     }
     of_cuts(name, line, c, out, at)
@@ -233,10 +233,10 @@ fn of_reports(name: &[u8], line: &[u8], c: Cursor, out: &mut [u8], at: usize) ->
 
 // The commands that take out of an aggregate, and those above.
 fn of_withdrawals(name: &[u8], line: &[u8], c: Cursor, out: &mut [u8], at: usize) -> usize {
-    if check::same(name, b"subtract") {
+    if name == b"subtract" {
         return aggregates::adding(line, c, out, at, Call::Subtract, false);
     }
-    if check::same(name, b"unmerge") {
+    if name == b"unmerge" {
         return aggregates::adding(line, c, out, at, Call::Unmerge, false);
     }
     of_reports(name, line, c, out, at)
@@ -244,16 +244,16 @@ fn of_withdrawals(name: &[u8], line: &[u8], c: Cursor, out: &mut [u8], at: usize
 
 // The other commands on aggregates, and those above.
 fn of_aggregates(name: &[u8], line: &[u8], c: Cursor, out: &mut [u8], at: usize) -> usize {
-    if check::same(name, b"merge") {
+    if name == b"merge" {
         return aggregates::adding(line, c, out, at, Call::Merge, false);
     }
-    if check::same(name, b"accumulate") {
+    if name == b"accumulate" {
         return aggregates::adding(line, c, out, at, Call::Accumulate, false);
     }
-    if check::same(name, b"aggregate") {
+    if name == b"aggregate" {
         return aggregates::aggregate(line, c, out, at, false);
     }
-    if check::same(name, b"unshard") {
+    if name == b"unshard" {
         return aggregates::unshard(line, c, out, at, false);
     }
     of_withdrawals(name, line, c, out, at)
@@ -261,19 +261,19 @@ fn of_aggregates(name: &[u8], line: &[u8], c: Cursor, out: &mut [u8], at: usize)
 
 // The commands on a day's file, and those above.
 fn of_files(name: &[u8], line: &[u8], c: Cursor, out: &mut [u8], at: usize) -> usize {
-    if check::same(name, b"fileread") {
+    if name == b"fileread" {
         return file_cases::read(line, c, out, at);
     }
-    if check::same(name, b"filewrite") {
+    if name == b"filewrite" {
         return file_cases::write(line, c, out, at);
     }
-    if check::same(name, b"filemax") {
+    if name == b"filemax" {
         return file_cases::max(line, c, out, at);
     }
-    if check::same(name, b"fileadd") {
+    if name == b"fileadd" {
         return file_cases::add(line, c, out, at);
     }
-    if check::same(name, b"filesize") {
+    if name == b"filesize" {
         return file_cases::size(line, c, out, at);
     }
     of_aggregates(name, line, c, out, at)
@@ -289,13 +289,13 @@ fn answer_case(line: &[u8], case: Cursor, out: &mut [u8], at: usize) -> usize {
         at: end,
         ok: case.ok,
     };
-    if check::same(name, b"params") {
+    if name == b"params" {
         return params(line, c, out, at, false);
     }
-    if check::same(name, b"coord") {
+    if name == b"coord" {
         return coord(line, c, out, at);
     }
-    if check::same(name, b"decode") {
+    if name == b"decode" {
         return decode(line, c, out, at);
     }
     of_files(name, line, c, out, at)

@@ -1,5 +1,7 @@
 // Reads cases from standard input, one a line, and writes a line for each: what the library answers,
 // or `bad` for a malformed case. Blank lines and lines that begin with # have no answer.
+#![tactic(auto)]
+
 use answers::print;
 use libc::STDIN_FILENO;
 
@@ -10,7 +12,7 @@ mod loads;
 ghost use Rattle.std.specs.Prelude.{◌≡◌, ◌≤◌, length};
 
 // How far the input is read.
-#[derive(Drop)]
+#[derive(Clone, Copy)]
 struct Progress {
     // How many bytes of the input buffer are of a line whose end is still to come.
     have: usize,
@@ -23,7 +25,7 @@ struct Progress {
 }
 
 // What was answered of the input buffer.
-#[derive(Drop)]
+#[derive(Clone, Copy)]
 struct Answered {
     // Where the line starts whose end is still to come.
     start: usize,

@@ -1,5 +1,7 @@
 // Of `replay`: the commands on a report: encoding, and the wraparound tests alone. The bytes of the tests are a row's, or come of a seed.
 // Those over Field128 are where wide is true, with a row.
+#![tactic(auto)]
+
 use answers::{bad, ok_elements, ok_two_rows, refused_lent};
 use case_inputs::{lens_of, lent_row, lent_rows, read_param};
 use lines::wide::elements;

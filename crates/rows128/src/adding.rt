@@ -11,7 +11,7 @@ use field128::joining;
 use rules::Answer;
 
 // How many elements were joined, and to how many of them one below p.
-#[derive(Drop)]
+#[derive(Clone, Copy)]
 struct Run {
     done: usize,
     below: u64,

@@ -1,5 +1,7 @@
 // Internal: rows of Field128's elements, two words to an element, the low one first. A word that is left over at a
 // row's end belongs to no element. A function here asks its caller for what it does not test itself.
+#![tactic(auto)]
+
 use field128::Element;
 use rules::Answer;
 

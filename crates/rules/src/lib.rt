@@ -3,6 +3,8 @@
 // is in docs/PINE.md, "The rules"; what each says is defined where it applies: in the specs/ of pine (1
 // to 6, and 19), doubles (4, and 8, 12 and 23 of one number), rows (7 and 12), flp (8 to 11, 13, 17, 20
 // and 21), layout (14), file_add (15 and 16), sampler (18), load_report (22) and vdaf (23).
+#![tactic(auto)]
+
 ghost use Rattle.std.specs.Prelude.{◌≡◌, cond, eqb};
 ghost use Rattle.rules.specs.Rules.{answer, accepted, refuse, first, out_of};
 
@@ -55,7 +57,7 @@ pub const SIZE: u64 = 23;
 
 // The rule that was broken and its place, or 0 and 0.
 #[repr(C)]
-#[derive(Drop)]
+#[derive(Clone, Copy)]
 pub struct Answer {
     pub number: u64,
     pub place: u64,

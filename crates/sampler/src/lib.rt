@@ -1,6 +1,8 @@
 // Sampling a share from a stream: its values below p, eight bytes each, up to a limit of draws (`into_field_vec` of the
 // Rust, which draws on). `sample` takes the stream in a row and asks for nothing. The others are internal: they ask their
 // caller for what they do not test themselves.
+#![tactic(auto)]
+
 ghost use Rattle.std.specs.Prelude.{◌≡◌, ◌+◌, ◌*◌, ◌/◌, ◌^◌, ◌≤◌, ◌<◌, min, length, take, leb};
 ghost use Rattle.field64.specs.Field.{p64};
 ghost use Rattle.pine.specs.Param.{Field64};
@@ -20,7 +22,7 @@ pub const MORE_DRAWS: u64 = 64;
 const PIECE: usize = 63;
 
 // A stream after draws, how many are still allowed, and how many values were taken.
-#[derive(Drop)]
+#[derive(Clone, Copy)]
 pub struct Draws {
     pub stream: Sponge,
     pub left: usize,

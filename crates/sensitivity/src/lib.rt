@@ -1,5 +1,7 @@
 // How far one report can move the sums: statements about the definitions of encoding and unsharding,
 // each as what a function ensures that does nothing, so that the check asks for its proof.
+#![tactic(auto)]
+
 ghost use Rattle.pine.specs.Param.{Field64};
 ghost use Rattle.sensitivity.specs.Sensitivity.{TrueLengths, MovedSums, MovedDoubles};
 

@@ -8,14 +8,14 @@ use pine::PineParam;
 use rules::Answer;
 
 // An answer, and whether the aggregate was left as it was.
-#[derive(Drop)]
+#[derive(Clone, Copy)]
 struct Sum {
     answer: Answer,
     kept: bool,
 }
 
 // The calls on an aggregate and another row.
-#[derive(Drop)]
+#[derive(Clone, Copy)]
 pub enum Call {
     Merge,
     Accumulate,

@@ -6,7 +6,7 @@ use lines::words::Cursor;
 use pine::PineParam;
 use rules::Answer;
 
-#[derive(Drop)]
+#[derive(Clone, Copy)]
 pub enum Which {
     Gradient,
     Checked,

@@ -1,5 +1,7 @@
 // Internal: both measurement shares of a report and its verification seed, with the five seeds in one row. A function here
 // asks its caller for what it does not test itself.
+#![tactic(auto)]
+
 ghost use Rattle.std.specs.Prelude.{◌≡◌, ◌++◌, ℕ, ◌*◌, ◌≤◌, ◌<◌, length};
 ghost use Rattle.rules.specs.Rules.{accepted};
 ghost use Rattle.field64.specs.Field.{p64};

@@ -1,6 +1,8 @@
 // The exact size at its limits: 1024 keys and 1025; and, since nobody runs a list of 2^32 reports, rule 16 by
 // the same function with a smaller largest count. Dimension 1, so 20 bytes an entry. The file stdout has the
 // answers, worked out by hand.
+#![tactic(auto)]
+
 ghost use Rattle.std.specs.Prelude.{◌<◌};
 
 use day_file::FileLen;

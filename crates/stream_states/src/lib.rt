@@ -1,5 +1,7 @@
 // Internal: states of a stream, kept in one row of words, from each of which one test of a block draws its bytes. A function
 // here asks its caller for what it does not test itself.
+#![tactic(auto)]
+
 ghost use Rattle.std.specs.Prelude.{◌≡◌, ◌*◌, ◌≤◌, ◌<◌, length, take};
 ghost use Rattle.turboshake.specs.Stream.{drawn, after};
 ghost use Rattle.stream_states.specs.States.{state_of, states_of, starts_of, tile_of, all_after, Ready};

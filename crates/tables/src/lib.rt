@@ -1,5 +1,7 @@
 // Internal: many tests on a group of columns, by tables: what each half of a byte makes of its two coordinates, made once for
 // all tests. A function here asks its caller for what it does not test itself.
+#![tactic(auto)]
+
 ghost use Rattle.std.specs.Prelude.{◌≡◌, ℕ, ◌+◌, ◌*◌, ◌^◌, ◌≤◌, ◌<◌, length, get_or};
 ghost use Rattle.field64.specs.Field.{p64};
 ghost use Rattle.sums.specs.Unreduced.{total_of};

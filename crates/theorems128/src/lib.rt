@@ -1,5 +1,7 @@
 // The statements of correctness, soundness and sensitivity over Field128, each as what a function ensures that does
 // nothing, so that the check asks for its proof. Those on withdrawals and on moved sums are over any field already.
+#![tactic(auto)]
+
 ghost use Rattle.params128.specs.Field128.{Field128};
 ghost use Rattle.correctness.specs.Correctness.{Correctness};
 ghost use Rattle.soundness.specs.Soundness.{Soundness};

@@ -3,6 +3,8 @@
 // once for the whole block. The stream has the bytes of one test after those of the other: each test of the block draws
 // from a state of its own, and the first thing is to run through the stream for these. The states are kept in one row
 // of words, which the caller lends. A function here asks its caller for what it does not test itself.
+#![tactic(auto)]
+
 ghost use Rattle.std.specs.Prelude.{◌≡◌, ◌*◌, ◌≤◌, ◌<◌, length};
 ghost use Rattle.field64.specs.Field.{p64};
 ghost use Rattle.sums.specs.Unreduced.{words_of};
@@ -26,7 +28,7 @@ pub const TESTS: usize = 50;
 const WIDTH: usize = 128;
 
 // What a block gives: the stream after its bytes, and the squared norm without reduction.
-#[derive(Drop)]
+#[derive(Clone, Copy)]
 pub struct Taken {
     pub next: Sponge,
     pub norm: Sum,

@@ -1,5 +1,7 @@
 // Internal: TurboSHAKE128 of RFC 9861. A message goes in by pieces, and the output comes out by pieces. A function here
 // asks its caller for what it does not test itself; `turbo_shake128`, which takes the message whole, asks nothing.
+#![tactic(auto)]
+
 ghost use Rattle.std.specs.Prelude.{◌≡◌, ◌++◌, ◌+◌, ◌*◌, ◌^◌, ◌<◌, ◌≤◌, length, get_or, take, drop};
 ghost use Rattle.turboshake.specs.TurboShake.{low_bytes, bytes_of, turbo_shake128};
 ghost use Rattle.turboshake.specs.Stream.{sponge, moved, xor_byte, absorb_all, start, finished, drawn, after};
@@ -8,7 +10,7 @@ ghost use Rattle.turboshake.specs.Stream.{sponge, moved, xor_byte, absorb_all, s
 const RATE: usize = 168;
 
 // The lanes, and the place in the block of the next byte.
-#[derive(Drop)]
+#[derive(Clone, Copy)]
 pub struct Sponge {
     pub lanes: [u64; 25],
     pub at: usize,

@@ -1,6 +1,8 @@
 // Aggregates of PINE over Field64 (pine/vdaf.rs of the Rust): the aggregate of no shares, adding to
 // an aggregate, taking out of one, and reading two aggregates back as doubles. Each public call takes
 // any arguments; a function named check_* decides its answer and writes nothing.
+#![tactic(auto)]
+
 ghost use Rattle.std.specs.Prelude.{◌≡◌, length};
 ghost use Rattle.rules.specs.Rules.{first};
 ghost use Rattle.field64.specs.Field.{p64};

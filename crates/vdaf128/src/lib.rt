@@ -1,5 +1,7 @@
 // Aggregates of PINE over Field128: as crates/vdaf has them over Field64, with rows of two words to an element. Each
 // public call takes any arguments; a function named check_* decides its answer and writes nothing.
+#![tactic(auto)]
+
 ghost use Rattle.std.specs.Prelude.{◌≡◌, ◌*◌, ◌<◌, length, get_or};
 ghost use Rattle.rules.specs.Rules.{accepted, first};
 ghost use Rattle.field64.specs.Field.{add_mod};

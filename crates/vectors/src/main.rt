@@ -1,5 +1,7 @@
 // Writes the outputs that the file stdout has from elsewhere, as oracle/vectors makes it: the RFC's examples, outputs
 // about a block's end for messages about a block's end, and prio's XofTurboShake128.
+#![tactic(auto)]
+
 ghost use Rattle.std.specs.Prelude.{◌<◌, ◌≤◌};
 
 use libc::STDOUT_FILENO;

@@ -1,5 +1,7 @@
 // Internal: few tests on a group of columns, by weights: each coordinate times 0, 1 or 2, less all of them once. A function
 // here asks its caller for what it does not test itself.
+#![tactic(auto)]
+
 ghost use Rattle.std.specs.Prelude.{◌≡◌, ◌+◌, ◌*◌, ◌≤◌, ◌<◌, length};
 ghost use Rattle.field64.specs.Field.{p64, add_mod, mul_mod};
 ghost use Rattle.field64.specs.Sums.{total};

@@ -1,5 +1,7 @@
 // Statements about the definitions of the day's file (docs/PINE.md, "The day's file"), each as what a function
 // ensures that does nothing: so the check asks for their proofs.
+#![tactic(auto)]
+
 ghost use Rattle.whole_day.specs.Statements.{Files, Inverses, OneAdding, WholeDay, KeyDoubles, ExactSize};
 
 // Bytes are a file just where they are made from entries in order.

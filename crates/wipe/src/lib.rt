@@ -1,4 +1,6 @@
 // Internal: wiping the stack that calls have used.
+#![tactic(auto)]
+
 ghost use Rattle.std.specs.Prelude.{◌≡◌};
 
 // Writes zeros over the stack below its caller's frame, by rows of 128 words: 1040 bytes each, with what a call itself

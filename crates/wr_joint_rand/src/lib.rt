@@ -1,5 +1,7 @@
 // Internal: the bytes of the wraparound tests come in a row, or from a seed of 16 bytes. A seed's are drawn into a buffer, as
 // many tests at a time as fit: no row holds them all. A function here asks its caller for what it does not test itself.
+#![tactic(auto)]
+
 ghost use Rattle.std.specs.Prelude.{◌≡◌, ◌*◌, ◌≤◌, ◌<◌, length, take};
 ghost use Rattle.field64.specs.Field.{p64};
 ghost use Rattle.rows.specs.Rows.{Below, row_rule};

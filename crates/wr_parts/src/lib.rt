@@ -1,6 +1,8 @@
 // Internal: the wraparound seed of a report. Before the last rule is met nothing is written, so that both shares go into the
 // wraparound parts by pieces; where the helper's values run out, zeros go in. A function here asks its caller for what it
 // does not test itself.
+#![tactic(auto)]
+
 ghost use Rattle.std.specs.Prelude.{◌≡◌, ◌++◌, ℕ, ◌*◌, ◌≤◌, length, leb};
 ghost use Rattle.rules.specs.Rules.{accepted};
 ghost use Rattle.field64.specs.Field.{p64};
@@ -27,7 +29,7 @@ const PIECE: usize = 63;
 const ROW: usize = 64;
 
 // The state of both wraparound parts, and of the stream of the helper's share, with the draws that are left.
-#[derive(Drop)]
+#[derive(Clone, Copy)]
 pub struct Parts {
     pub leader: Sponge,
     pub helper: Sponge,
@@ -36,7 +38,7 @@ pub struct Parts {
 }
 
 // The wraparound seed, and whether there are enough of the helper's values.
-#[derive(Drop)]
+#[derive(Clone, Copy)]
 pub struct Seeded {
     pub seed: [u8; 16],
     pub enough: bool,

@@ -1,4 +1,6 @@
 // The wraparound tests alone (`run_wr_tests` of pine/flp.rs of the Rust).
+#![tactic(auto)]
+
 use pine::PineParam;
 use rules::Answer;
 

@@ -1,5 +1,7 @@
 // The wraparound tests alone over Field128: as crates/wr_tests has them over Field64, with rows of two words to an
 // element.
+#![tactic(auto)]
+
 ghost use Rattle.std.specs.Prelude.{◌≡◌, ◌*◌, ◌≤◌, length};
 ghost use Rattle.rules.specs.Rules.{first, in_order};
 ghost use Rattle.rows.specs.Rows.{row_rule, elements_rule};

@@ -1,5 +1,7 @@
 // Internal: XofTurboShake128, the stream of a seed of 16 bytes, under the tag that the Rust's `dst` makes of its
 // algorithm id and a usage.
+#![tactic(auto)]
+
 ghost use Rattle.std.specs.Prelude.{◌≡◌, ◌∷◌, ◌++◌, ◌<◌, length};
 ghost use Rattle.turboshake.specs.Stream.{absorb_all, start, finished, stream_of};
 ghost use Rattle.xof.specs.Xof.{algorithm_id, dst, before_binder, xof_turbo_shake128};
