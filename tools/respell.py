@@ -111,7 +111,24 @@ def imported(text):
     return names
 
 
-def turned(p, text, new, said):
+def record_fields():
+    """The fields of the repository's own records."""
+    names = set()
+    for p in files(".antt"):
+        inside = False
+        for line in read(p).split("\n"):
+            if re.match(r"^\s*(?:pub )?record .*\bwhere$", line):
+                inside, indent = True, len(line) - len(line.lstrip())
+            elif inside and line.strip() and len(line) - len(line.lstrip()) <= indent:
+                inside = False
+            elif inside:
+                m = re.match(r"^\s+(?:pub )?([^\s:(){}.,]+)\s*:(?!=)", line)
+                if m:
+                    names.add(m.group(1))
+    return names
+
+
+def turned(p, text, new, said, fields):
     theirs = imported(text)
     aliases = set(re.findall(r"use [A-Za-z0-9_.'+-]+ as ([A-Za-z0-9_'-]+)", text)) - {"tie", "code"}
     tokens = set(TOKEN.findall(text))
@@ -125,7 +142,7 @@ def turned(p, text, new, said):
         before = text[: m.start()]
         if p.endswith(".rt") and to == w + "_lem":
             return w
-        if not re.search("[A-Z]", w) and before.endswith("."):
+        if not re.search("[A-Z]", w) and before.endswith(".") and w not in fields:
             owner = re.search(r"([^\s(){}\[\].,;:\"]+)\.$", before)
             if not owner or owner.group(1) not in aliases:
                 return w
@@ -149,11 +166,12 @@ def turned(p, text, new, said):
 
 def main():
     defs, new = plan()
+    fields = record_fields()
     said = []
     count = collections.Counter()
     for p in list(files(".antt", ".rt", ".edit")):
         text = read(p)
-        out = turned(p, text, new, said)
+        out = turned(p, text, new, said, fields)
         if out != text:
             count[p.rsplit(".", 1)[1]] += 1
             if not DRY:

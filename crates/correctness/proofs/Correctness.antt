@@ -75,25 +75,25 @@ nearest_zero f =
 module _ (F : Field) (laws : WordLaws F) (i : PineParam) where
   module _ (rooms : (param_answer F i).number ≡ 0 → Room F.p i) (r : C.Report F i) where
     room : Room F.p i
-    room = rooms (accepted_inputs F i r.gradient r.stream r.found-measurement r.found-results r.measurement r.results r.call)
+    room = rooms (accepted_inputs F i r.gradient r.stream r.found_measurement r.found_results r.measurement r.results r.call)
 
     long : i.dimension ≤ length (F.elements r.measurement)
-    long = long_enough F laws i r.gradient r.stream r.found-measurement r.found-results r.measurement r.results room r.call
+    long = long_enough F laws i r.gradient r.stream r.found_measurement r.found_results r.measurement r.results room r.call
 
     stands : (j : ℕ) → j < i.dimension → get_or (F.elements r.measurement) j 0 ≡ mod_p F.p (C.floor_at F i j r)
     unfolding element
-    stands = measurement_at F laws i r.gradient r.stream r.found-measurement r.found-results r.measurement r.results room r.call
+    stands = measurement_at F laws i r.gradient r.stream r.found_measurement r.found_results r.measurement r.results room r.call
 
     plain : List ℕ → List ℕ
     plain side = tests_of F.p (bytes_per_test i.dimension) i.num_wr_tests r.stream (take i.dimension side)
 
     left_side : (found : List ℕ) → length found ≡ F.words_in i.num_wr_tests → run_tests_of F i (F.words (C.share F i r.left)) r.stream found ≡ outcome accepted (F.words (plain r.left))
     unfolding plain
-    left_side = left_alone F laws i r.gradient r.stream r.found-measurement r.found-results r.measurement r.results room r.call r.left r.right r.left-row.long r.right-row.long r.left-row.below r.right-row.below r.adds
+    left_side = left_alone F laws i r.gradient r.stream r.found_measurement r.found_results r.measurement r.results room r.call r.left r.right r.left_row.long r.right_row.long r.left_row.below r.right_row.below r.adds
 
     right_side : (found : List ℕ) → length found ≡ F.words_in i.num_wr_tests → run_tests_of F i (F.words (C.share F i r.right)) r.stream found ≡ outcome accepted (F.words (plain r.right))
     unfolding plain
-    right_side = right_alone F laws i r.gradient r.stream r.found-measurement r.found-results r.measurement r.results room r.call r.left r.right r.left-row.long r.right-row.long r.left-row.below r.right-row.below r.adds
+    right_side = right_alone F laws i r.gradient r.stream r.found_measurement r.found_results r.measurement r.results room r.call r.left r.right r.left_row.long r.right_row.long r.left_row.below r.right_row.below r.adds
 
     -- into zeros
     alone : (side : List ℕ) → ((found : List ℕ) → length found ≡ F.words_in i.num_wr_tests → run_tests_of F i (F.words (C.share F i side)) r.stream found ≡ outcome accepted (F.words (plain side))) → C.results_on F i r side ≡ plain side
@@ -101,7 +101,7 @@ module _ (F : Field) (laws : WordLaws F) (i : PineParam) where
     alone side f =
         let T = i.num_wr_tests in
         ap (λ (o : Outcome). F.elements o.row) (f (F.words (replicate T 0)) (words_long F laws (replicate T 0) T (length-replicate {A = ℕ} T 0)))
-        ∙ read_results F laws i r.gradient r.stream r.found-measurement r.found-results r.measurement r.results room r.call r.left r.right r.left-row.long r.right-row.long r.left-row.below r.right-row.below r.adds side
+        ∙ read_results F laws i r.gradient r.stream r.found_measurement r.found_results r.measurement r.results room r.call r.left r.right r.left_row.long r.right_row.long r.left_row.below r.right_row.below r.adds side
 
     on_left : C.results_on F i r r.left ≡ plain r.left
     on_left = alone r.left left_side
@@ -114,14 +114,14 @@ module _ (F : Field) (laws : WordLaws F) (i : PineParam) where
     tests_add = record {
       left = λ found l. rw on_left (left_side found l);
       right = λ found l. rw on_right (right_side found l);
-      sum = rw (on_left, on_right) (results_cut F laws i r.gradient r.stream r.found-measurement r.found-results r.measurement r.results room r.call r.left r.right r.left-row.long r.right-row.long r.left-row.below r.right-row.below r.adds);
+      sum = rw (on_left, on_right) (results_cut F laws i r.gradient r.stream r.found_measurement r.found_results r.measurement r.results room r.call r.left r.right r.left_row.long r.right_row.long r.left_row.below r.right_row.below r.adds);
     }
 
     circuits_zero : C.CircuitsZero F i r
     unfolding plain
     circuits_zero = record {
-      main = λ joint f. rw (on_left, on_right) (main_cut F laws i r.gradient r.stream r.found-measurement r.found-results r.measurement r.results room r.call r.left r.right r.left-row.long r.right-row.long r.left-row.below r.right-row.below r.adds joint f.long f.below);
-      norm = rw (on_left, on_right) (norm_cut F laws i r.gradient r.stream r.found-measurement r.found-results r.measurement r.results room r.call r.left r.right r.left-row.long r.right-row.long r.left-row.below r.right-row.below r.adds);
+      main = λ joint f. rw (on_left, on_right) (main_cut F laws i r.gradient r.stream r.found_measurement r.found_results r.measurement r.results room r.call r.left r.right r.left_row.long r.right_row.long r.left_row.below r.right_row.below r.adds joint f.long f.below);
+      norm = rw (on_left, on_right) (norm_cut F laws i r.gradient r.stream r.found_measurement r.found_results r.measurement r.results room r.call r.left r.right r.left_row.long r.right_row.long r.left_row.below r.right_row.below r.adds);
     }
 
     -- its first d elements, as a row cut in two
@@ -130,8 +130,8 @@ module _ (F : Field) (laws : WordLaws F) (i : PineParam) where
       whole = take i.dimension (F.elements r.measurement);
       left = take i.dimension r.left;
       right = take i.dimension r.right;
-      left_row = front_row F.p (length (F.elements r.measurement)) i.dimension r.left long r.left-row;
-      right_row = front_row F.p (length (F.elements r.measurement)) i.dimension r.right long r.right-row;
+      left_row = front_row F.p (length (F.elements r.measurement)) i.dimension r.left long r.left_row;
+      right_row = front_row F.p (length (F.elements r.measurement)) i.dimension r.right long r.right_row;
       adds = sym (take_add F.p i.dimension r.left r.right) ∙ ap (take i.dimension) r.adds;
       number = λ j. C.floor_at F i j r;
     }
@@ -221,9 +221,9 @@ correctness F laws positive rooms i ok s b calls rs =
       tests = each_of (tests_add F laws i (rooms i)) rs;
       circuits = each_of (circuits_zero F laws i (rooms i)) rs;
       tallied = g.tallied;
-      empty_answers = g.empty-answers;
-      accumulate_answers = g.accumulate-answers;
-      merge_answers = g.merge-answers;
+      empty_answers = g.empty_answers;
+      accumulate_answers = g.accumulate_answers;
+      merge_answers = g.merge_answers;
       subtract_answers = taken_as_added F;
       decoded = λ k m. decodes F laws positive rooms i ok (run F s calls k) (run F s calls m) (f k) (f m) rs;
     }

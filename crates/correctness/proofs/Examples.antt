@@ -154,7 +154,7 @@ row_undone : (n : ℕ)
 unfolding run step accumulate_of accumulate_answer param_answer param_rules
 row_undone =
     (withdrawal.calls Field64 (omega arith) words_64 2 start begun 0 (Call.accumulate 7 (with_dimension 2) (a_row 8 9) ∷ []) (Call.accumulate 7 (with_dimension 2) (a_row 1 2) ∷ []) [] (tt, tt)
-    ).row-withdrawn (Call.merge 0 (with_dimension 2) 7) (Call.subtract 0 (with_dimension 2) (a_row 8 9)) (a_row 8 9) (refl, refl, refl) (refl, refl, refl)
+    ).row_withdrawn (Call.merge 0 (with_dimension 2) 7) (Call.subtract 0 (with_dimension 2) (a_row 8 9)) (a_row 8 9) (refl, refl, refl) (refl, refl, refl)
 
 -- ---- a report, cut in two: the first row of the table of worked examples
 

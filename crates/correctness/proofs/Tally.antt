@@ -156,8 +156,8 @@ module _ (F : Field) (laws : WordLaws F) (d : ℕ) (positive : 0 < F.p) where
       row = word_row F laws d (add_rows p x y) (record { long = by_long (add_mod p); below = add_below p positive x y });
       adds = f.adds ++ g.adds;
       takes = f.takes ++ g.takes;
-      adds_rows = each_append _ f.adds g.adds f.adds-rows g.adds-rows;
-      takes_rows = each_append _ f.takes g.takes f.takes-rows g.takes-rows;
+      adds_rows = each_append _ f.adds g.adds f.adds_rows g.adds_rows;
+      takes_rows = each_append _ f.takes g.takes f.takes_rows g.takes_rows;
       numbers = λ r. rw (count_append r f.adds g.adds, count_append r f.takes g.takes) (differs_plus (a.tally r) (b.tally r) _ _ _ _ (f.numbers r) (g.numbers r));
       sums = λ j h.
           rw (at_by (add_mod p) (add_below p positive x y) j h, sum_over_append (at F j) f.adds g.adds, sum_over_append (at F j) f.takes g.takes)
@@ -174,8 +174,8 @@ module _ (F : Field) (laws : WordLaws F) (d : ℕ) (positive : 0 < F.p) where
       row = word_row F laws d (sub_rows p x y) (record { long = by_long (sub_mod p); below = sub_below p positive x y });
       adds = f.adds ++ g.takes;
       takes = f.takes ++ g.adds;
-      adds_rows = each_append _ f.adds g.takes f.adds-rows g.takes-rows;
-      takes_rows = each_append _ f.takes g.adds f.takes-rows g.adds-rows;
+      adds_rows = each_append _ f.adds g.takes f.adds_rows g.takes_rows;
+      takes_rows = each_append _ f.takes g.adds f.takes_rows g.adds_rows;
       numbers = λ r. rw (count_append r f.adds g.takes, count_append r f.takes g.adds) (differs_less (a.tally r) (b.tally r) _ _ _ _ (f.numbers r) (g.numbers r));
       sums = λ j h.
           rw (at_by (sub_mod p) (sub_below p positive x y) j h, sum_over_append (at F j) f.adds g.takes, sum_over_append (at F j) f.takes g.adds)
@@ -221,7 +221,7 @@ module _ (F : Field) (laws : WordLaws F) (d : ℕ) (positive : 0 < F.p) where
   tallied_of a f = record {
     row = f.row;
     rows = s;
-    fields = each_different (WordRow F d) all (each_append _ f.adds f.takes f.adds-rows f.takes-rows);
+    fields = each_different (WordRow F d) all (each_append _ f.adds f.takes f.adds_rows f.takes_rows);
     different = λ r. (different_once r all).0;
     others = λ r h.
         let z : count r f.adds + count r f.takes ≡ 0 = sym (count_append r f.adds f.takes) ∙ (different_once r all).1 h in
@@ -315,7 +315,7 @@ module _ (F : Field) (laws : WordLaws F) (d : ℕ) (positive : 0 < F.p) where
     pub share_row : (r : List ℕ) → (accumulate_answer F i a.row r).number ≡ 0 → Backed F d (alone r)
     share_row r z =
         let t = added F i a.row r z in
-        itself r (record { long = t.right-long ∙ sym t.left-long ∙ f.backing.row.long; below = t.right-below })
+        itself r (record { long = t.right_long ∙ sym t.left_long ∙ f.backing.row.long; below = t.right_below })
 
   -- a row for d elements that was emptied
   emptied_zeros : (i : PineParam) (row : List ℕ) → (empty_answer F i row).number ≡ 0 → length row ≡ F.words_in d → F.words (replicate i.dimension 0) ≡ F.words (replicate d 0)

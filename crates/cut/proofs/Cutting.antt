@@ -219,7 +219,7 @@ module _ (i : PineParam) (g : List Float) (nonce seeds leader helper given : Lis
     same_answer =
         let h = passed (take 11 all) (none met) in
         let m : in_order (take 8 (encode_rules Field64 i g stream leader results)) ≡ accepted =
-        accepts (take 8 (encode_rules Field64 i g stream leader results)) (h.0, (none (right_row 2 _ _ sl), (none (right_row 3 _ _ ready_8.leader-long), (none (right_row 4 _ _ rl), (h.1.1.1.1.1.1.0, (h.1.1.1.1.1.1.1.0, (h.1.1.1.1.1.1.1.1.0, (h.1.1.1.1.1.1.1.1.1.0, tt)))))))) in
+        accepts (take 8 (encode_rules Field64 i g stream leader results)) (h.0, (none (right_row 2 _ _ sl), (none (right_row 3 _ _ ready_8.leader_long), (none (right_row 4 _ _ rl), (h.1.1.1.1.1.1.0, (h.1.1.1.1.1.1.1.0, (h.1.1.1.1.1.1.1.1.0, (h.1.1.1.1.1.1.1.1.1.0, tt)))))))) in
         others 8 (encode_rules Field64 i g stream leader results) m ∙ sym (others 11 all met)
 
     module _ (a : Answer) (m₁ r₁ : List ℕ) (call : encode_outcome a m₁ r₁ ≡ encode_of Field64 i g stream leader results) where
@@ -251,7 +251,7 @@ module _ (i : PineParam) (g : List Float) (nonce seeds leader helper given : Lis
             → cut_outcome a l h v ≡ cut_of Field64 i g nonce seeds leader helper given
         unfolding cut_of leader_share helper_share vf_seed
         accepted_with wr l h v ew eh el ev =
-            let helper_is : h ≡ helper_share Field64 i seeds = eh ∙ ap (λ (k : ℕ). sampled p64 k (helper_stream k seeds)) ready_8.helper-long in
+            let helper_is : h ≡ helper_share Field64 i seeds = eh ∙ ap (λ (k : ℕ). sampled p64 k (helper_stream k seeds)) ready_8.helper_long in
             let leader_is : l ≡ leader_share Field64 i g nonce seeds = el ∙ (λ j. sub_rows p64 (measured j) (helper_is j)) in
             let given_is : v ≡ wr_seed Field64 i g nonce seeds ++ vf_seed Field64 i g nonce seeds = ev ∙ (λ j. ew j ++ vf_joint_rand nonce seeds (leader_is j) (helper_is j)) in
             rw (whole_is, eq-eqb a.number 0 z) (λ j. cut_outcome a (leader_is j) (helper_is j) (given_is j))

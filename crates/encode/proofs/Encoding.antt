@@ -178,7 +178,7 @@ module _ (F : Field) (i : PineParam) (g : List Float) (s m r : List ℕ) where
 
     module _ (laws : WordLaws F) where
       results_counted : length (F.elements r) ≡ i.num_wr_tests
-      results_counted = laws.counted r i.num_wr_tests ready.results-long
+      results_counted = laws.counted r i.num_wr_tests ready.results_long
 
       pub few : length (F.elements r) ≤ 256
       few = omega (arith, results_counted, ready.tests)
@@ -193,7 +193,7 @@ module _ (F : Field) (i : PineParam) (g : List Float) (s m r : List ℕ) where
         pub room : Room
         room =
             let e = l ∙ results_counted in
-            let d = ready.gradient-long in
+            let d = ready.gradient_long in
             record {
               whole = λ j. e j * bytes_per_test (d j);
               tests = (omega (arith, e, ready.tests), omega (arith, e, ready.tests));
@@ -201,13 +201,13 @@ module _ (F : Field) (i : PineParam) (g : List Float) (s m r : List ℕ) where
             }
 
       pub rooms : (found : List ℕ) → length found ≡ length (F.elements r) → Rooms F i g found m r
-      rooms found l = (ready.gradient-long, (l ∙ results_counted, (ready.measurement-long, ready.results-long)))
+      rooms found l = (ready.gradient_long, (l ∙ results_counted, (ready.measurement_long, ready.results_long)))
 
       -- when the results are those of the tests
       module _ (found : List ℕ) (n : ℕ) (f : ℕ) (l : n ≡ length (F.elements r)) (f-is : f ≡ i.frac_bits) (er : found ≡ tests_of F.p ((length g + 3) / 4) n s (elements F.p f g)) where
         results_are : found ≡ results_of F.p i s xs
         unfolding results_of
-        results_are = er ∙ (λ j. tests_of F.p (bytes_per_test (ready.gradient-long j)) ((l ∙ results_counted) j) s (elements F.p (f-is j) g))
+        results_are = er ∙ (λ j. tests_of F.p (bytes_per_test (ready.gradient_long j)) ((l ∙ results_counted) j) s (elements F.p (f-is j) g))
 
         late : in_order (drop 6 (encode_rules F i g s m r)) ≡ late_answer F i g found m r
         unfolding encode_rules

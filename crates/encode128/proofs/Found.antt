@@ -34,22 +34,22 @@ module _ (i : PineParam) (g : List Float) (s m r found : List ℕ) (met : in_ord
   met_rules = ready Field128 i g s m r met
 
   pub coordinates_fit : length g + 3 < 2 ^ 64
-  coordinates_fit = omega (arith, met_rules.gradient-long, met_rules.dimension)
+  coordinates_fit = omega (arith, met_rules.gradient_long, met_rules.dimension)
 
   found_words : length found ≡ 2 * i.num_wr_tests
-  found_words = omega (arith, short, met_rules.results-long, met_rules.tests)
+  found_words = omega (arith, short, met_rules.results_long, met_rules.tests)
 
   pub tests : length (elements_of found) ≡ i.num_wr_tests
   tests = (whole_twice found i.num_wr_tests found_words).1
 
   as_many : length (elements_of found) ≡ length (elements_of r)
-  as_many = tests ∙ sym (whole_twice r i.num_wr_tests met_rules.results-long).1
+  as_many = tests ∙ sym (whole_twice r i.num_wr_tests met_rules.results_long).1
 
   -- for the tests
   pub asked : (R : Pine) → R ≡ pine_of i → Usable floor_limit128 R.frac_bits g × ((R.scale ≡ power R.frac_bits) × (((length (elements_of found) * per ≤ length s) × ((length g ≤ 4 * per) × (per ≤ 16384))) × (Whole found × (length (elements_of found) ≤ 256))))
   asked R is =
       let w = room Field128 i g s m r met words_128 (length (elements_of found)) as_many in
-      (subst (λ (f : ℕ). Usable floor_limit128 f g) (sym (fraction_is i R is)) met_rules.usable, (scale_is i R is, ((le_of_eq (w.whole ∙ sym met_rules.stream-long), (w.per.1, w.per.0.1)), ((whole_twice found i.num_wr_tests found_words).0, w.tests.1))))
+      (subst (λ (f : ℕ). Usable floor_limit128 f g) (sym (fraction_is i R is)) met_rules.usable, (scale_is i R is, ((le_of_eq (w.whole ∙ sym met_rules.stream_long), (w.per.1, w.per.0.1)), ((whole_twice found i.num_wr_tests found_words).0, w.tests.1))))
 
   -- of their results
   module _ (f : ℕ) (f-is : f ≡ i.frac_bits) (row : List ℕ) (kept : length row ≡ length found) (is : row ≡ words_of (tests_of p128 per (length (elements_of found)) s (elements p128 f g))) where

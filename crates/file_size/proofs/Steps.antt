@@ -43,10 +43,10 @@ module _ (most : ℕ) (keys counts : List ℕ) (n key : ℕ) (H : Holding most k
   C = take n counts
 
   K_long : length K ≡ n
-  K_long = length-take-le n keys (omega (arith, H.few, H.keys-long))
+  K_long = length-take-le n keys (omega (arith, H.few, H.keys_long))
 
   C_long : length C ≡ n
-  C_long = length-take-le n counts (omega (arith, H.few, H.counts-long))
+  C_long = length-take-le n counts (omega (arith, H.few, H.counts_long))
 
   pub index_below : (i : ℕ) → i ≡ index key K → i ≤ n
   index_below i e = omega (arith, e, index_fits key K, K_long)
@@ -86,8 +86,8 @@ module _ (most : ℕ) (keys counts : List ℕ) (n key : ℕ) (H : Holding most k
       holding = λ z. record {
         some = H.some;
         few = rw r.count H.few;
-        keys_long = H.keys-long;
-        counts_long = rw (r.row z) (length-set counts i (get_or counts i 0 + 1) ∙ H.counts-long);
+        keys_long = H.keys_long;
+        counts_long = rw (r.row z) (length-set counts i (get_or counts i 0 + 1) ∙ H.counts_long);
         rise = rw r.count H.rise;
         fit = rw (new_counts z) (below_append (suc most) (take i C) _ (below_take (suc most) i C H.fit) (small z, below_drop (suc most) (suc i) C H.fit));
       };
@@ -102,13 +102,13 @@ module _ (most : ℕ) (keys counts : List ℕ) (n key : ℕ) (H : Holding most k
 
     keys_are : a.number ≡ 0 → take m keys' ≡ with_key key K K key
     keys_are z =
-        let l : n < length keys = omega (arith, room z, H.keys-long) in
-        rw (r.count z, r.keys-row z, new, ← e, add-zero i) (moved_take i n key keys (index_below i e) l)
+        let l : n < length keys = omega (arith, room z, H.keys_long) in
+        rw (r.count z, r.keys_row z, new, ← e, add-zero i) (moved_take i n key keys (index_below i e) l)
 
     counts_are : a.number ≡ 0 → take m counts' ≡ take i C ++ (1 ∷ drop i C)
     counts_are z =
-        let l : n < length counts = omega (arith, room z, H.counts-long) in
-        rw (r.count z, r.counts-row z) (moved_take i n 1 counts (index_below i e) l)
+        let l : n < length counts = omega (arith, room z, H.counts_long) in
+        rw (r.count z, r.counts_row z) (moved_take i n 1 counts (index_below i e) l)
 
     pub stepped_begun : Stepped most keys counts n key a m keys' counts'
     unfolding key_rules
@@ -117,8 +117,8 @@ module _ (most : ℕ) (keys counts : List ℕ) (n key : ℕ) (H : Holding most k
       holding = λ z. record {
         some = H.some;
         few = rw (r.count z) (omega (arith, room z));
-        keys_long = rw (r.keys-row z) (length_moved i n key keys (index_below i e) (omega (arith, room z, H.keys-long)) ∙ H.keys-long);
-        counts_long = rw (r.counts-row z) (length_moved i n 1 counts (index_below i e) (omega (arith, room z, H.counts-long)) ∙ H.counts-long);
+        keys_long = rw (r.keys_row z) (length_moved i n key keys (index_below i e) (omega (arith, room z, H.keys_long)) ∙ H.keys_long);
+        counts_long = rw (r.counts_row z) (length_moved i n 1 counts (index_below i e) (omega (arith, room z, H.counts_long)) ∙ H.counts_long);
         rise = rw (keys_are z, ← inserted_split key K) (rising_inserted key K H.rise);
         fit = rw (counts_are z) (below_append (suc most) (take i C) _ (below_take (suc most) i C H.fit) (omega (arith, H.some), below_drop (suc most) i C H.fit));
       };
@@ -163,7 +163,7 @@ module _ (most : ℕ) (N keys counts : List ℕ) (n i key : ℕ) (inside : i < l
 
   pub run_next : a.number ≡ 0 → run_of most [] [] N ≡ run_of most (take m keys') (take m counts') (drop (i + 1) N)
   unfolding run_of
-  run_next z = at_key ∙ rw (← s.answer, eq-eqb a.number 0 z, ← s.keys-row z, ← s.counts-row z)
+  run_next z = at_key ∙ rw (← s.answer, eq-eqb a.number 0 z, ← s.keys_row z, ← s.counts_row z)
 
   pub run_stops : (a.number ≡ 0 → ⊥) → run a 0 ≡ run_of most [] [] N
   unfolding run_of
@@ -172,7 +172,7 @@ module _ (most : ℕ) (N keys counts : List ℕ) (n i key : ℕ) (inside : i < l
 pub run_end : (most : ℕ) (N keys counts : List ℕ) (n i : ℕ) → length N ≤ i → Holding most keys counts n → run_of most [] [] N ≡ run_of most (take n keys) (take n counts) (drop i N) → run accepted n ≡ run_of most [] [] N
 unfolding run_of
 run_end most N keys counts n i h H e =
-    let l : length (take n keys) ≡ n = length-take-le n keys (omega (arith, H.few, H.keys-long)) in
+    let l : length (take n keys) ≡ n = length-take-le n keys (omega (arith, H.few, H.keys_long)) in
     sym (e ∙ rw (drop_of_length-le N h, l))
 
 pub hold_none : (most : ℕ) (keys counts : List ℕ) → 0 < most → length keys ≡ 1024 → length counts ≡ 1024 → Holding most keys counts 0

@@ -122,7 +122,7 @@ module _ (p : ℕ) (i : PineParam) (stream xs : List ℕ) (h : Sound p i stream 
       let n = sq_norm p xs in
       let B = sq_norm_bound_of i in
       let s : B + (p - n) ≡ B - n + p = omega (arith, h.norm, v_below) in
-      ap (λ (x : ℕ). x % p) s ∙ add-mod_right (B - n) p ∙ mod-eq_of_lt (omega (arith, h.room-norm))
+      ap (λ (x : ℕ). x % p) s ∙ add-mod_right (B - n) p ∙ mod-eq_of_lt (omega (arith, h.room_norm))
 
   norm_v_is : norm_v p i full_of ≡ v % p
   unfolding norm_v checked v
@@ -144,7 +144,7 @@ module _ (p : ℕ) (i : PineParam) (stream xs : List ℕ) (h : Sound p i stream 
   written_fits =
       let b = wr_test_bound i in
       let l : 2 * b ≤ 2 ^ wr_test_bits_of i = le_of_eq (sym (bits_power i)) in
-      below_more (2 * b) (2 ^ wr_test_bits_of i) l (map (written p b) rs) (written_below p b h.room-test (bound_positive i) rs results_below)
+      below_more (2 * b) (2 ^ wr_test_bits_of i) l (map (written p b) rs) (written_below p b h.room_test (bound_positive i) rs results_below)
 
   checked_below : Below 2 checked
   unfolding checked tb

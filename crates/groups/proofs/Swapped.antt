@@ -135,13 +135,13 @@ pub record Fits (j width per d : ℕ) (g : Group) : Type 0 where
   pub goes_on : j < g.end
   pub inside : g.end ≤ per
   pub few : g.end - j ≤ width
-  pub in_order_lem : g.first ≤ g.last
+  pub in_order : g.first ≤ g.last
   pub coordinates : g.last ≤ d
   pub few_coordinates : g.last - g.first ≤ 4 * (g.end - j)
 
 pub group_fits : (j width per d : ℕ) (g : Group) → j < per → 0 < width → g ≡ group_from j width per d → Fits j width per d g
 group_fits j width per d g h some e =
-    rw e (record { goes_on = omega arith; inside = omega arith; few = omega arith; in_order_lem = omega arith; coordinates = omega arith; few_coordinates = omega arith })
+    rw e (record { goes_on = omega arith; inside = omega arith; few = omega arith; in_order = omega arith; coordinates = omega arith; few_coordinates = omega arith })
 
 -- its coordinates
 pub group_cut : {A : Type 0} (j width per : ℕ) (xs : List A) (g : Group) → j < per → g ≡ group_from j width per (length xs) → take (g.last - g.first) (drop g.first xs) ≡ drop (4 * j) (take (4 * g.end) xs)

@@ -84,7 +84,7 @@ module _ (i : PineParam) (h : (in_order (param_rules_up_to Field64 1024 16 i)).n
       let t = tests_in.1 in
       let z = sizes_64 i all_accepts in
       let b : bytes_per_test i.dimension ≤ 256 = omega arith in
-      let u : 1 + wr_test_bits_of i ≤ 50 = omega (arith, z.bound-bits) in
+      let u : 1 + wr_test_bits_of i ≤ 50 = omega (arith, z.bound_bits) in
       let s : i.num_wr_tests * bytes_per_test i.dimension ≤ 16 * 256 = mul-le-mul t b in
       let w : (1 + wr_test_bits_of i) * i.num_wr_tests ≤ 50 * 16 = mul-le-mul u t in
       record {
@@ -92,7 +92,7 @@ module _ (i : PineParam) (h : (in_order (param_rules_up_to Field64 1024 16 i)).n
         dimension = d;
         tests = t;
         stream = s;
-        measurement = omega (arith, z.norm-bits);
+        measurement = omega (arith, z.norm_bits);
       }
 
 pub inputs_passed : (seed : ℕ) (i : PineParam) → (in_order (early_rules seed i)).number ≡ 0 → (in_order (param_rules_up_to Field64 1024 16 i)).number ≡ 0

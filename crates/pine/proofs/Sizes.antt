@@ -84,7 +84,7 @@ module _ (F : Field) (i : PineParam) (narrow : F.norm_limit ≤ 4294967295) (l :
 
   exponent_small : wr_test_exponent_of i ≤ 48
   unfolding wr_test_exponent_of
-  exponent_small = exponent_room i.alpha_numerator i.alpha_denominator i.norm_bound l.alpha.1 l.alpha-over.0 (le_trans l.norm.1 narrow)
+  exponent_small = exponent_room i.alpha_numerator i.alpha_denominator i.norm_bound l.alpha.1 l.alpha_over.0 (le_trans l.norm.1 narrow)
 
   bound : wr_test_bound i ≤ 2 ^ 48
   bound = le_trans (le_of_eq (sym (bound_recovered i))) (pow_mono exponent_small)
@@ -116,7 +116,7 @@ module _ (F : Field) (i : PineParam) (narrow : F.norm_limit ≤ 4294967295) (l :
 
   calls_norm : gadget_calls_norm i ≤ 65536
   unfolding gadget_calls_norm
-  calls_norm = omega (arith, ceil_le i.dimension i.chunk_len_sq_norm_equal l.chunk-norm.0, l.dimension.1)
+  calls_norm = omega (arith, ceil_le i.dimension i.chunk_len_sq_norm_equal l.chunk_norm.0, l.dimension.1)
 
   pub sizes : Sizes i
   sizes = record {
@@ -158,7 +158,7 @@ module _ (i : PineParam) where
 module _ (F : Field) (i : PineParam) (narrow : F.norm_limit ≤ 4294967295) (l : Limits F i) where
   bound_in_lem : bound_in (pine_of i) ≡ wr_test_bound i
   unfolding bound_in pine_of
-  bound_in_lem = bound_some (wr_test_exponent_of i) (exponent_positive i (mul-pos l.alpha.0 l.norm.0) l.alpha-over.0) (omega (arith, exponent_small F i narrow l)) ∙ bound_recovered i
+  bound_in_lem = bound_some (wr_test_exponent_of i) (exponent_positive i (mul-pos l.alpha.0 l.norm.0) l.alpha_over.0) (omega (arith, exponent_small F i narrow l)) ∙ bound_recovered i
 
   pub recovered : Recovered i
   unfolding pine_of bit_checked_len_of encoded_input_len_of input_len_of gadget_calls_of lengths_main
@@ -253,4 +253,4 @@ unfolding pine_of
 small r f =
     let l = limits_of f.param f.derivable in
     let s = sizes_of f.param f.derivable in
-    rw f.is (record { dimension = l.dimension.1; tests = l.tests.1; chunk = l.chunk.1; chunk_norm = l.chunk-norm.1; calls = s.calls; calls_norm = s.calls-norm })
+    rw f.is (record { dimension = l.dimension.1; tests = l.tests.1; chunk = l.chunk.1; chunk_norm = l.chunk_norm.1; calls = s.calls; calls_norm = s.calls_norm })

@@ -147,7 +147,7 @@ switched false n B e h = absurd (true≢false (sym e))
 report_short : (F : Field) (i : PineParam) → i.true_sq_norm ≡ true → (r : Report F i) → Short i r.gradient
 unfolding encode_rules
 report_short F i on r =
-    let h = passed (encode_rules F i r.gradient r.stream r.found-measurement r.found-results) (answered F i r.gradient r.stream r.found-measurement r.found-results r.measurement r.results r.call) in
+    let h = passed (encode_rules F i r.gradient r.stream r.found_measurement r.found_results) (answered F i r.gradient r.stream r.found_measurement r.found_results r.measurement r.results r.call) in
     switched i.true_sq_norm (true_sq_norm_of i.frac_bits r.gradient) (sq_norm_bound_of i) on h.1.1.1.1.1.1.0
 
 pub true_lengths : (F : Field) → 0 < F.p → ((i : PineParam) → (param_answer F i).number ≡ 0 → sq_norm_bound_of i < F.p) → TrueLengths F

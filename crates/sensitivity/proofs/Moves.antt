@@ -115,24 +115,24 @@ module _ (F : Field) (i : PineParam) where
         let t = q.other in
         let g : (j : ℕ) → square (floors_sum F i j xs -ℤ floors_sum F i j ys) ≤ 2 * square (floor_at F i j r) + 2 * square (floor_at F i j t) =
         λ j. le_trans (le_of_eq (ap square (replaced_by q j))) (square_of_difference (floor_at F i j r) (floor_at F i j t)) in
-        four _ _ _ (sq_norm_bound_of i) (over_bounded d _ (λ j. square (floor_at F i j r)) (λ j. square (floor_at F i j t)) g) (short_total r q.one-short) (short_total t q.other-short)
+        four _ _ _ (sq_norm_bound_of i) (over_bounded d _ (λ j. square (floor_at F i j r)) (λ j. square (floor_at F i j t)) g) (short_total r q.one_short) (short_total t q.other_short)
       where
         four : (a b c m : ℕ) → a ≤ 2 * b + 2 * c → b ≤ m → c ≤ m → a ≤ 4 * m
         four a b c m h k l = omega arith
 
     removed_total : Removed F i xs ys → squared_distance F i xs ys ≤ sq_norm_bound_of i
-    removed_total q = le_trans (over_same d _ (λ j. square (floor_at F i j q.one)) (λ j. ap square (removed_by q j))) (short_total q.one q.one-short)
+    removed_total q = le_trans (over_same d _ (λ j. square (floor_at F i j q.one)) (λ j. ap square (removed_by q j))) (short_total q.one q.one_short)
 
     replaced_one : Replaced F i xs ys → (j : ℕ) → j < d → nat_abs (floors_sum F i j xs -ℤ floors_sum F i j ys) ≤ 2 * i.norm_bound
     replaced_one q j h =
         two _ _ _ i.norm_bound (le_trans (le_of_eq (ap nat_abs (replaced_by q j))) (triangle (floor_at F i j q.one) (floor_at F i j q.other)))
-        (short_floor q.one q.one-short j h) (short_floor q.other q.other-short j h)
+        (short_floor q.one q.one_short j h) (short_floor q.other q.other_short j h)
       where
         two : (a b c m : ℕ) → a ≤ b + c → b ≤ m → c ≤ m → a ≤ 2 * m
         two a b c m h k l = omega arith
 
     removed_one : Removed F i xs ys → (j : ℕ) → j < d → nat_abs (floors_sum F i j xs -ℤ floors_sum F i j ys) ≤ i.norm_bound
-    removed_one q j h = le_trans (le_of_eq (ap nat_abs (removed_by q j))) (short_floor q.one q.one-short j h)
+    removed_one q j h = le_trans (le_of_eq (ap nat_abs (removed_by q j))) (short_floor q.one q.one_short j h)
 
 pub moved_sums : MovedSums
 moved_sums = record { replaced = replaced_total; removed = removed_total; small = short_sum }

@@ -62,7 +62,7 @@ module _ (F : Field) (i : PineParam) where
     pub adds : TwoRows F i agg share → accumulate_of F i agg share ≡ outcome accepted (F.words (add_rows F.p (F.elements agg) (F.elements share)))
     unfolding accumulate_of accumulate_answer
     adds t =
-        rw (t.param, right_row 1 (length agg) (F.words_in i.dimension) t.left-long, right_row 2 (length share) (F.words_in i.dimension) t.right-long, right_elements F.p 0 (F.elements agg ++ F.elements share) (below_append F.p (F.elements agg) (F.elements share) t.left_below t.right-below))
+        rw (t.param, right_row 1 (length agg) (F.words_in i.dimension) t.left_long, right_row 2 (length share) (F.words_in i.dimension) t.right_long, right_elements F.p 0 (F.elements agg ++ F.elements share) (below_append F.p (F.elements agg) (F.elements share) t.left_below t.right_below))
 
   -- ---- unsharding
 
@@ -77,7 +77,7 @@ module _ (F : Field) (i : PineParam) where
         → unshard_of F i left right row ≡ unshard_outcome accepted (decoded_sums F.p i.frac_bits (F.elements left) (F.elements right))
     unfolding unshard_of unshard_answer
     unshards t l z =
-        rw (t.param, right_row 1 (length left) (F.words_in i.dimension) t.left-long, right_row 2 (length right) (F.words_in i.dimension) t.right-long, right_row 3 (length row) i.dimension l, right_elements F.p 0 (F.elements left ++ F.elements right) (below_append F.p (F.elements left) (F.elements right) t.left_below t.right-below), z)
+        rw (t.param, right_row 1 (length left) (F.words_in i.dimension) t.left_long, right_row 2 (length right) (F.words_in i.dimension) t.right_long, right_row 3 (length row) i.dimension l, right_elements F.p 0 (F.elements left ++ F.elements right) (below_append F.p (F.elements left) (F.elements right) t.left_below t.right_below), z)
 
   -- ---- what an answer does not turn on
 

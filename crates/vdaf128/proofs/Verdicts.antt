@@ -37,7 +37,7 @@ module _ (i : PineParam) (a : Answer) (e : a ≡ param_answer Field128 i) (z : a
 
 -- two rows that are accepted have no word left over, and as many elements, which are below p
 pub rows_ready : (i : PineParam) (left right : List ℕ) → TwoRows Field128 i left right → (Whole left × (length left ≡ length right)) × (Below p128 (elements_of left) × Below p128 (elements_of right))
-rows_ready i left right t = (((whole_twice left i.dimension t.left-long).0, t.left-long ∙ sym t.right-long), (t.left_below, t.right-below))
+rows_ready i left right t = (((whole_twice left i.dimension t.left_long).0, t.left_long ∙ sym t.right_long), (t.left_below, t.right_below))
 
 -- ---- adding: the rules up to 7, then 12 with the adding itself
 
@@ -100,7 +100,7 @@ module _ (i : PineParam) (left right : List ℕ) (row : List Float) where
 
 -- what an accepted call has met of the sums, and of the rows' lengths
 pub sums_met : (i : PineParam) (left right : List ℕ) (row : List Float) → TwoRows Field128 i left right × (length row ≡ i.dimension) → ((length left ≡ 2 * length row) × (length right ≡ 2 * length row)) × (Below p128 (elements_of left) × Below p128 (elements_of right))
-sums_met i left right row t = ((t.0.left-long ∙ ap (λ (n : ℕ). 2 * n) (sym t.1), t.0.right-long ∙ ap (λ (n : ℕ). 2 * n) (sym t.1)), (t.0.left_below, t.0.right-below))
+sums_met i left right row t = ((t.0.left_long ∙ ap (λ (n : ℕ). 2 * n) (sym t.1), t.0.right_long ∙ ap (λ (n : ℕ). 2 * n) (sym t.1)), (t.0.left_below, t.0.right_below))
 
 pub sizes_passed : (i : PineParam) (left right : List ℕ) (row : List Float) (a : Answer) → a ≡ unshard_answer Field128 i left right row → a.number ≡ 0 → (sizes_rule p128 size_limit128 0 (sums left right)).number ≡ 0
 unfolding unshard_answer

@@ -46,7 +46,7 @@ module _ (d : ℕ) (small : d ≤ 65536) where
       same = sym (file_met p64 a.inputs.dimension file met.file).dimension ∙ (file_met p64 d file (file_accepted p64 d es o (omega arith) narrow)).dimension
 
       pub share_row : FieldRow p64 d a.share
-      share_row = record { long = met.share-long ∙ same; below = met.share-below }
+      share_row = record { long = met.share_long ∙ same; below = met.share_below }
 
       room : held (key_in a.key) (keys_of es) ≡ false → length es < 1024
       room =

@@ -35,13 +35,13 @@ module _ (g h : List ℕ) (k : Key g) (l : Key h) (e : key_in g ≡ key_in h) wh
   parts =
       let a = fresh_ok p64 0 (omega arith) g k.long k.bytes in
       let b = fresh_ok p64 0 (omega arith) h l.long l.bytes in
-      key_injective (take 6 g) (take 6 h) (valve_in g) (valve_in h) (a.address-long ∙ sym b.address-long) a.address-bytes b.address-bytes a.valve-fits b.valve-fits e
+      key_injective (take 6 g) (take 6 h) (valve_in g) (valve_in h) (a.address_long ∙ sym b.address_long) a.address_bytes b.address_bytes a.valve_fits b.valve_fits e
 
 pub order : (g h : List ℕ) → Key g → Key h → ltb (key_in g) (key_in h) ≡ less_bytes (take 6 g) (take 6 h) (ltb (valve_in g) (valve_in h))
 order g h k l =
     let a = fresh_ok p64 0 (omega arith) g k.long k.bytes in
     let b = fresh_ok p64 0 (omega arith) h l.long l.bytes in
-    key_order (take 6 g) (take 6 h) (valve_in g) (valve_in h) (a.address-long ∙ sym b.address-long) a.address-bytes b.address-bytes a.valve-fits b.valve-fits
+    key_order (take 6 g) (take 6 h) (valve_in g) (valve_in h) (a.address_long ∙ sym b.address_long) a.address_bytes b.address_bytes a.valve_fits b.valve_fits
 
 -- the eight bytes of a key from its address and its valve
 key_whole : (g : List ℕ) → Key g → g ≡ take 6 g ++ to_bytes 2 (valve_in g)
@@ -213,7 +213,7 @@ module _ (d : ℕ) (small : d ≤ 65536) (g : List ℕ) (kg : Key g) where
     body_row : FieldRow p64 d (entry_for (fresh d g) final).body
     body_row =
         let f = ok_found p64 d (fresh d g) final (fresh_ok p64 d (omega arith) g kg.long kg.bytes) (through_ok d small [] none calls k).entries in
-        record { long = f.body-long; below = f.body_below }
+        record { long = f.body_long; below = f.body_below }
 
     -- the body, as an aggregate that holds these shares
     abbrev pub holding : Aggregate

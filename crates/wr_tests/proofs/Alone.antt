@@ -64,10 +64,10 @@ module _ (F : Field) (i : PineParam) (xs s d : List ℕ) where
         t = length (F.elements d)
 
         gradient_long : n ≡ i.dimension
-        gradient_long = laws.counted xs i.dimension met.row-1
+        gradient_long = laws.counted xs i.dimension met.row_1
 
         results_long : t ≡ i.num_wr_tests
-        results_long = laws.counted d i.num_wr_tests met.row-3
+        results_long = laws.counted d i.num_wr_tests met.row_3
 
         -- the tests have room, and take the whole stream
         pub record Room : Type 0 where

@@ -29,8 +29,8 @@ module _ (i : PineParam) (xs s d : List ℕ) (a : Answer) (e : a ≡ in_order (r
   asked =
       let m = met Field128 i xs s d a e z in
       let w = room Field128 i xs s d a e z words_128 in
-      let whole : length (elements_of d) * per ≡ length s = ap (λ (n : ℕ). length (elements_of d) * n) (sym per_is) ∙ w.whole ∙ sym m.row-2 in
-      ((le_of_eq whole, (omega (arith, per_is, w.per.1), omega (arith, per_is, w.per.0.1))), (((whole_twice d _ m.row-3).0, w.tests.1), m.below))
+      let whole : length (elements_of d) * per ≡ length s = ap (λ (n : ℕ). length (elements_of d) * n) (sym per_is) ∙ w.whole ∙ sym m.row_2 in
+      ((le_of_eq whole, (omega (arith, per_is, w.per.1), omega (arith, per_is, w.per.0.1))), (((whole_twice d _ m.row_3).0, w.tests.1), m.below))
 
   pub left : (r : List ℕ) → r ≡ words_of (tests_of p128 per (length (elements_of d)) s (elements_of xs)) → outcome a r ≡ run_tests_of Field128 i xs s d
   left r q = done Field128 i xs s d a e z words_128 r (q ∙ ap (λ (n : ℕ). words_of (tests_of p128 n (length (elements_of d)) s (elements_of xs))) (sym per_is))

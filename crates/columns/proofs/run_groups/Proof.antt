@@ -55,7 +55,7 @@ add-group-requires c κs =
     let s = z.before.before.before.before.before.before in
     let r = g.group-from.result in
     let xs = s.args.gradient.now in
-    let long : length (take (r.last - r.first) (drop r.first xs)) ≤ 4 * (r.end - l.loop.j) = rw (part_long r.first r.last xs (fits g).in_order (fits g).coordinates) (fits g).few-coordinates in
+    let long : length (take (r.last - r.first) (drop r.first xs)) ≤ 4 * (r.end - l.loop.j) = rw (part_long r.first r.last xs (fits g).in_order (fits g).coordinates) (fits g).few_coordinates in
     let T = l.loop.invariant.2 ∙ z.zero_row.auto.0 in
     let room = room_less _ _ (r.end - l.loop.j) s.args.width _ _ T l.loop.invariant.1 (fits g).few s.requires.1.1.1 in
     ((same_room _ _ s.args.per _ T s.requires.0.0, (omega (arith, fits g), omega (arith, (fits g).few, s.requires.1.1.0.1))), ((below_take p64 (r.last - r.first) (drop r.first xs) (below_drop p64 r.first xs s.requires.1.0), (long, room)), groups_below p64 s.args.per s.args.stream.now xs l.loop.results l.loop.j _ (lit< tt) l.loop.invariant.3))

@@ -126,7 +126,7 @@ add-limbs-requires c κs =
       (
         row_long (r.last - r.first) l.loop.row (room g) ∙ sym long,
         (
-          (rw long (fits g).few-coordinates, fit.1),
+          (rw long (fits g).few_coordinates, fit.1),
           (
             (sums.1.0.0 ∙ sym sums.0.0, sums.1.1.0 ∙ sym sums.0.0),
             (

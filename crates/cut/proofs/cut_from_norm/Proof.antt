@@ -37,7 +37,7 @@ met c =
     norm_met Field64 s.args.param s.args.gradient.now s.args.nonce.now s.args.seeds.now s.args.leader.now s.args.helper.now s.args.given.now s.requires.1 (lit< tt) s.args.pine s.requires.0 (words_of c.before.before.before.before.before.squared-norm.result) c.before.before.before.before.reduced.result (norm_of c.before.before.before.before.before) c.before.before.before.before.reduced.ensures c.before.before.before.check-norm.result c.before.before.before.check-norm.ensures c.before.if1.false
 
 squared-norm-requires : tie.Need-squared-norm-requires
-squared-norm-requires c κs = ((subst (λ (f : ℕ). Usable floor_limit64 f c.before.before.before.before.before.before.args.gradient.now) (sym (fraction c.before.before.before.before.before.before)) (ready_of c.before.before.before.before.before.before).usable, scale_is c.before.before.before.before.before.before.args.param c.before.before.before.before.before.before.args.pine c.before.before.before.before.before.before.requires.0), omega (arith, (ready_of c.before.before.before.before.before.before).gradient-long, (ready_of c.before.before.before.before.before.before).dimension))
+squared-norm-requires c κs = ((subst (λ (f : ℕ). Usable floor_limit64 f c.before.before.before.before.before.before.args.gradient.now) (sym (fraction c.before.before.before.before.before.before)) (ready_of c.before.before.before.before.before.before).usable, scale_is c.before.before.before.before.before.before.args.param c.before.before.before.before.before.before.args.pine c.before.before.before.before.before.before.requires.0), omega (arith, (ready_of c.before.before.before.before.before.before).gradient_long, (ready_of c.before.before.before.before.before.before).dimension))
 
 reduced-requires : tie.Need-reduced-requires
 reduced-requires c κs = search rules
@@ -52,18 +52,18 @@ wr-seed-requires : tie.Need-wr-seed-requires
 wr-seed-requires c κs =
     let s = c.before.before.before.before.before.before.before.before.before.before.before in
     let r = ready_of s in
-    ((s.requires.0, r.inputs), ((r.usable, norm_is Field64 s.args.param s.args.gradient.now s.args.nonce.now s.args.seeds.now s.args.leader.now s.args.helper.now s.args.given.now s.requires.1 (lit< tt) s.args.pine s.requires.0 (words_of c.before.before.before.before.squared-norm.result) c.before.before.before.reduced.result (norm_of c.before.before.before.before) c.before.before.before.reduced.ensures c.before.before.check-norm.result c.before.before.check-norm.ensures), (r.gradient-long, r.seeds-long)))
+    ((s.requires.0, r.inputs), ((r.usable, norm_is Field64 s.args.param s.args.gradient.now s.args.nonce.now s.args.seeds.now s.args.leader.now s.args.helper.now s.args.given.now s.requires.1 (lit< tt) s.args.pine s.requires.0 (words_of c.before.before.before.before.squared-norm.result) c.before.before.before.reduced.result (norm_of c.before.before.before.before) c.before.before.before.reduced.ensures c.before.before.check-norm.result c.before.before.check-norm.ensures), (r.gradient_long, r.seeds_long)))
 
 returns-2 : tie.Need-returns-2
 returns-2 c =
     let s = c.before.before.before.before.before.before.before.before.before.before.before.before.before.before in
-    let w = c.before.before.wr-seed in
+    let w = c.before.before.wr_seed_lem in
     draws_refused Field64 s.args.param s.args.gradient.now s.args.nonce.now s.args.seeds.now s.args.leader.now s.args.helper.now s.args.given.now (met c.before.before) w.result.enough w.ensures.0 (not-true w.result.enough c.if2.true)
 
 cut-from-tests-requires : tie.Need-cut-from-tests-requires
 cut-from-tests-requires c κs =
     let s = c.before.before.before.before.before.before.before.before.before.before.before.before.before.before.before.before.before.before in
-    let w = c.before.before.before.before.before.before.wr-seed in
+    let w = c.before.before.before.before.before.before.wr_seed_lem in
     let enough = not-false w.result.enough c.before.before.before.before.if2.false in
     (draws_met Field64 s.args.param s.args.gradient.now s.args.nonce.now s.args.seeds.now s.args.leader.now s.args.helper.now s.args.given.now (met c.before.before.before.before.before.before) w.result.enough w.ensures.0 enough, w.ensures.1 (draws_accepted Field64 s.args.param s.args.gradient.now s.args.nonce.now s.args.seeds.now s.args.leader.now s.args.helper.now s.args.given.now (met c.before.before.before.before.before.before) w.result.enough w.ensures.0 enough))
 

@@ -85,9 +85,9 @@ cut-measurement-requires c κs =
     let xs = elements p64 c.before.before.before.before.before.before.before.before.before.before.before.before.before.before.before.before.before.before.before.args.param.frac_bits c.before.before.before.before.before.before.before.before.before.before.before.before.before.before.before.before.before.before.before.args.gradient.now in
     let stream = wr_stream_of Field64 c.before.before.before.before.before.before.before.before.before.before.before.before.before.before.before.before.before.before.before.args.param c.before.before.before.before.before.before.before.before.before.before.before.before.before.before.before.before.before.before.before.args.gradient.now c.before.before.before.before.before.before.before.before.before.before.before.before.before.before.before.before.before.before.before.args.nonce.now c.before.before.before.before.before.before.before.before.before.before.before.before.before.before.before.before.before.before.before.args.seeds.now in
     let below = subst (Below p64) (sym m) (measurement_below p64 (omega arith) c.before.before.before.before.before.before.before.before.before.before.before.before.before.before.before.before.before.before.before.args.param stream xs (elements_below p64 c.before.before.before.before.before.before.before.before.before.before.before.before.before.before.before.before.before.before.before.args.param.frac_bits (lit< tt) c.before.before.before.before.before.before.before.before.before.before.before.before.before.before.before.before.before.before.before.args.gradient.now)) in
-    let long = helper_long c.before.before.before.before.before.before.before.before.before ∙ r.helper-long in
+    let long = helper_long c.before.before.before.before.before.before.before.before.before ∙ r.helper_long in
     let draws = subst (λ (k : ℕ). draws_rule p64 k (helper_stream k c.before.before.before.before.before.before.before.before.before.before.before.before.before.before.before.before.before.before.before.args.seeds.now) ≡ accepted) (sym long) (draws_were Field64 c.before.before.before.before.before.before.before.before.before.before.before.before.before.before.before.before.before.before.before.args.param c.before.before.before.before.before.before.before.before.before.before.before.before.before.before.before.before.before.before.before.args.gradient.now c.before.before.before.before.before.before.before.before.before.before.before.before.before.before.before.before.before.before.before.args.nonce.now c.before.before.before.before.before.before.before.before.before.before.before.before.before.before.before.before.before.before.before.args.seeds.now c.before.before.before.before.before.before.before.before.before.before.before.before.before.before.before.before.before.before.before.args.leader.now c.before.before.before.before.before.before.before.before.before.before.before.before.before.before.before.before.before.before.before.args.helper.now c.before.before.before.before.before.before.before.before.before.before.before.before.before.before.before.before.before.before.before.args.given.now c.before.before.before.before.before.before.before.before.before.before.before.before.before.before.before.before.before.before.before.requires.0) in
-    ((r.seeds-long, r.given-long), ((below, (c.before.before.before.before.before.before.before.before.before.encode-with-wr-joint-rand-seed.auto.1.1.1.0 ∙ r.leader-long ∙ sym long, omega (arith, long, (sizes_64 c.before.before.before.before.before.before.before.before.before.before.before.before.before.before.before.before.before.before.before.args.param r.inputs).encoded))), draws))
+    ((r.seeds_long, r.given_long), ((below, (c.before.before.before.before.before.before.before.before.before.encode-with-wr-joint-rand-seed.auto.1.1.1.0 ∙ r.leader_long ∙ sym long, omega (arith, long, (sizes_64 c.before.before.before.before.before.before.before.before.before.before.before.before.before.before.before.before.before.before.before.args.param r.inputs).encoded))), draws))
 
 same-length-3 : tie.Need-same-length-3
 same-length-3 c = search rules

@@ -16,7 +16,7 @@ usable-requires c κs = search rules
 returns : tie.Need-returns
 returns c =
     let s = c.before.before in
-    answer_8 floor_limit64 s.args.x s.args.frac-bits (not-false _ (sym c.before.usable.ensures ∙ not-true _ c.if1.true))
+    answer_8 floor_limit64 s.args.x s.args.frac_bits (not-false _ (sym c.before.usable.ensures ∙ not-true _ c.if1.true))
 
 within-limit-requires : tie.Need-within-limit-requires
 within-limit-requires c κs = search rules
@@ -26,7 +26,7 @@ returns-2 c =
     let u = c.before.before in
     let s = u.before.before in
     let h = usable_is s.args.x _ u.before.usable.ensures u.if1.false in
-    answer_17 floor_limit64 s.args.x s.args.frac-bits h (sym (limit_is floor_limit64 (lit< tt) s.args.x s.args.scale s.args.frac-bits (held s) s.requires h _ c.before.within-limit.ensures) ∙ c.if2.true)
+    answer_17 floor_limit64 s.args.x s.args.frac_bits h (sym (limit_is floor_limit64 (lit< tt) s.args.x s.args.scale s.args.frac_bits (held s) s.requires h _ c.before.within-limit.ensures) ∙ c.if2.true)
 
 accepted-requires : tie.Need-accepted-requires
 accepted-requires c κs = search rules
@@ -37,7 +37,7 @@ returns-3 c =
     let u = w.before in
     let s = u.before.before in
     let h = usable_is s.args.x _ u.before.usable.ensures u.if1.false in
-    c.accepted.ensures ∙ answer_none floor_limit64 s.args.x s.args.frac-bits h (sym (limit_is floor_limit64 (lit< tt) s.args.x s.args.scale s.args.frac-bits (held s) s.requires h _ w.within-limit.ensures) ∙ c.before.if2.false)
+    c.accepted.ensures ∙ answer_none floor_limit64 s.args.x s.args.frac_bits h (sym (limit_is floor_limit64 (lit< tt) s.args.x s.args.scale s.args.frac_bits (held s) s.requires h _ w.within-limit.ensures) ∙ c.before.if2.false)
 
 pub check_coordinate_spec : {M : Type 1} → statement M
 check_coordinate_spec =

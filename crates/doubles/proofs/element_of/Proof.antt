@@ -14,14 +14,14 @@ held c = subst T (sym c.well-formed.0.1) tt
 
 floor-to-field-requires : tie.Need-floor-to-field-requires
 floor-to-field-requires c κs =
-    let g = taken floor_limit64 c.args.x c.args.frac-bits c.requires.0 in
-    ap (λ (z : Float). within (mul binary64 c.args.x z)) c.requires.1 ∙ usable_within floor_limit64 (lit< tt) c.args.x c.args.frac-bits (held c) g.usable ∙ ap not g.near
+    let g = taken floor_limit64 c.args.x c.args.frac_bits c.requires.0 in
+    ap (λ (z : Float). within (mul binary64 c.args.x z)) c.requires.1 ∙ usable_within floor_limit64 (lit< tt) c.args.x c.args.frac_bits (held c) g.usable ∙ ap not g.near
 
 returns : tie.Need-returns
 returns c =
     let s = c.before in
     c.floor-to-field.ensures ∙ ap (λ (z : Float). floor_mod p64 (mul binary64 s.args.x z)) s.requires.1
-    ∙ product_is_element p64 floor_limit64 (lit< tt) s.args.x s.args.frac-bits (held s) (taken floor_limit64 s.args.x s.args.frac-bits s.requires.0)
+    ∙ product_is_element p64 floor_limit64 (lit< tt) s.args.x s.args.frac_bits (held s) (taken floor_limit64 s.args.x s.args.frac_bits s.requires.0)
 
 pub element_of_spec : {M : Type 1} → statement M
 element_of_spec = tie.close (tie.spec floor-to-field-requires returns)

@@ -14,7 +14,7 @@ returns : tie.Need-returns
 returns c =
     let k = c.before.before in
     let s = k.before in
-    encoded_refused floor_limit128 s.args.x s.args.frac-bits p128 k.check-coordinate.result k.check-coordinate.ensures c.if1.true
+    encoded_refused floor_limit128 s.args.x s.args.frac_bits p128 k.check-coordinate.result k.check-coordinate.ensures c.if1.true
 
 element-of-requires : tie.Need-element-of-requires
 element-of-requires c κs = (ap (λ (a : Answer). a.number) (sym c.before.before.check-coordinate.ensures) ∙ c.if1.false, c.before.before.before.requires)
@@ -23,7 +23,7 @@ returns-2 : tie.Need-returns-2
 returns-2 c =
     let b = c.before.before.before in
     let s = b.before in
-    encoded_accepted floor_limit128 s.args.x s.args.frac-bits p128 b.check-coordinate.result b.check-coordinate.ensures (number_of c.element-of.result) c.before.if1.false c.element-of.ensures
+    encoded_accepted floor_limit128 s.args.x s.args.frac_bits p128 b.check-coordinate.result b.check-coordinate.ensures (number_of c.element-of.result) c.before.if1.false c.element-of.ensures
 
 pub encode_spec : {M : Type 1} → statement M
 encode_spec = tie.close (tie.spec check-coordinate-requires returns element-of-requires returns-2)

@@ -20,7 +20,7 @@ encode-requires c κs = search rules
 returns-2 : tie.Need-returns-2
 returns-2 c =
     let s = c.before.before.before in
-    c.encode.ensures ∙ small_frac_bits p128 floor_limit128 s.args.x s.args.frac-bits c.before.before.if1.false
+    c.encode.ensures ∙ small_frac_bits p128 floor_limit128 s.args.x s.args.frac_bits c.before.before.if1.false
 
 pub f64_to_field_spec : {M : Type 1} → statement M
 f64_to_field_spec = tie.close (tie.spec returns scale-of-requires encode-requires returns-2)

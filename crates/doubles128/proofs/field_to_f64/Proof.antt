@@ -30,7 +30,7 @@ returns-3 c =
     let k = c.before.before in
     let e = k.before in
     let s = e.before.before.before in
-    decoded_refused (number_of s.args.y) s.args.frac-bits e.before.before.if1.false (below_p e) k.check-size.result k.check-size.ensures c.if3.true
+    decoded_refused (number_of s.args.y) s.args.frac_bits e.before.before.if1.false (below_p e) k.check-size.result k.check-size.ensures c.if3.true
 
 scale-of-requires : tie.Need-scale-of-requires
 scale-of-requires c κs = search rules
@@ -45,7 +45,7 @@ returns-4 c =
     let k = c.before.before.before.before in
     let e = k.before in
     let s = e.before.before.before in
-    decoded_accepted (number_of s.args.y) s.args.frac-bits e.before.before.if1.false (below_p e) k.check-size.result k.check-size.ensures c.decode.result c.before.before.if3.false c.decode.ensures
+    decoded_accepted (number_of s.args.y) s.args.frac_bits e.before.before.if1.false (below_p e) k.check-size.result k.check-size.ensures c.decode.result c.before.before.if3.false c.decode.ensures
 
 pub field_to_f64_spec : {M : Type 1} → statement M
 field_to_f64_spec =

@@ -6,8 +6,8 @@ use Rattle.doubles128.proofs.limbs_of.Statement.{statement}
 use Rattle.doubles128.proofs.limbs_of.Tie as tie
 
 -- what owning an `f64` tells: the format holds it
-known : (c : tie.Start) → Scaled c.args.x c.args.scale c.args.frac-bits
-known c = scaled c.args.x c.args.scale c.args.frac-bits (subst T (sym c.well-formed.0.1) tt) c.requires.0 c.requires.1
+known : (c : tie.Start) → Scaled c.args.x c.args.scale c.args.frac_bits
+known c = scaled c.args.x c.args.scale c.args.frac_bits (subst T (sym c.well-formed.0.1) tt) c.requires.0 c.requires.1
 
 floor-limbs-requires : tie.Need-floor-limbs-requires
 floor-limbs-requires c κs = (known c).within

@@ -21,7 +21,7 @@ returns c =
     let k = c.before.before in
     let s = k.before in
     let q = k.small-flag.ensures in
-    (q.0, λ z. not_refused floor_limit128 s.args.x s.args.frac-bits (lit< tt) s.args.scale (held s) s.requires (q.1 z) (sym c.before.within-limit.ensures ∙ c.if1.true))
+    (q.0, λ z. not_refused floor_limit128 s.args.x s.args.frac_bits (lit< tt) s.args.scale (held s) s.requires (q.1 z) (sym c.before.within-limit.ensures ∙ c.if1.true))
 
 returns-2 : tie.Need-returns-2
 returns-2 c = search rules

@@ -85,7 +85,7 @@ returns-2 c =
 add-per : tie.Need-overflow-add-per
 add-per c =
     let s = c.before.before.before.before.before.before.before.before.before.before.before.before.before.before.before.before in
-    omega (arith, (ready Field64 s.args.param s.args.gradient.now (bytes s) s.args.measurement.now s.args.results.now (met c)).gradient-long, (ready Field64 s.args.param s.args.gradient.now (bytes s) s.args.measurement.now s.args.results.now (met c)).dimension)
+    omega (arith, (ready Field64 s.args.param s.args.gradient.now (bytes s) s.args.measurement.now s.args.results.now (met c)).gradient_long, (ready Field64 s.args.param s.args.gradient.now (bytes s) s.args.measurement.now s.args.results.now (met c)).dimension)
 
 norm-and-tests-requires : tie.Need-norm-and-tests-requires
 norm-and-tests-requires c κs =
@@ -93,7 +93,7 @@ norm-and-tests-requires c κs =
     let n = c.before.before.before.before.before.before.before.before.new in
     let h = ready Field64 s.args.param s.args.gradient.now (bytes s) s.args.measurement.now s.args.results.now (met c.before) in
     let w = room Field64 s.args.param s.args.gradient.now (bytes s) s.args.measurement.now s.args.results.now (met c.before) words_64 (length s.args.found.now) (whole c.before) in
-    ((subst (λ (f : ℕ). Usable floor_limit64 f s.args.gradient.now) (sym (fraction_is s.args.param _ n.ensures)) h.usable, scale_is s.args.param _ n.ensures), (rw w.whole (le_of_eq (sym h.stream-long)), (w.tests, w.per)))
+    ((subst (λ (f : ℕ). Usable floor_limit64 f s.args.gradient.now) (sym (fraction_is s.args.param _ n.ensures)) h.usable, scale_is s.args.param _ n.ensures), (rw w.whole (le_of_eq (sym h.stream_long)), (w.tests, w.per)))
 
 finish-requires : tie.Need-finish-requires
 finish-requires c κs =

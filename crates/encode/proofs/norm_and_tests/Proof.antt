@@ -26,7 +26,7 @@ returns : tie.Need-returns
 returns c =
     let s = c.before.before.before.before.before.before.before.before in
     let t = c.before.before.norm-from-seed in
-    (t.ensures.0, t.ensures.1 ∙ ap (λ (bytes : List ℕ). tests_of p64 s.args.per (length s.args.results.now) bytes (elements p64 s.args.frac-bits s.args.gradient.now)) (sym (from_seed s.args.seeded (length s.args.results.now * s.args.per) s.args.row.now c.before.before.before.before.if1.true)))
+    (t.ensures.0, t.ensures.1 ∙ ap (λ (bytes : List ℕ). tests_of p64 s.args.per (length s.args.results.now) bytes (elements p64 s.args.frac_bits s.args.gradient.now)) (sym (from_seed s.args.seeded (length s.args.results.now * s.args.per) s.args.row.now c.before.before.before.before.if1.true)))
 
 norm-and-tests-requires : tie.Need-norm-and-tests-requires
 norm-and-tests-requires c κs =
@@ -40,7 +40,7 @@ returns-2 : tie.Need-returns-2
 returns-2 c =
     let s = c.before.before.before.before.before.before.before.before in
     let t = c.before.before.norm-and-tests in
-    (t.ensures.0, t.ensures.1 ∙ ap (λ (bytes : List ℕ). tests_of p64 s.args.per (length s.args.results.now) bytes (elements p64 s.args.frac-bits s.args.gradient.now)) (sym (lent s.args.seeded (length s.args.results.now * s.args.per) s.args.row.now c.before.before.before.before.if1.false)))
+    (t.ensures.0, t.ensures.1 ∙ ap (λ (bytes : List ℕ). tests_of p64 s.args.per (length s.args.results.now) bytes (elements p64 s.args.frac_bits s.args.gradient.now)) (sym (lent s.args.seeded (length s.args.results.now * s.args.per) s.args.row.now c.before.before.before.before.if1.false)))
 
 pub norm_and_tests_spec : {M : Type 1} → statement M
 norm_and_tests_spec =

@@ -54,10 +54,10 @@ take-key-requires : tie.Need-take-key-requires invariant-loop decreases-loop
 take-key-requires c κs = c.before.before.before.before.before.loop.invariant.1
 
 same_length : tie.Need-same-length invariant-loop decreases-loop
-same_length c = omega (arith, c.before.before.before.before.before.before.before.take-key.auto.0, c.before.before.before.before.before.before.before.before.before.before.before.before.before.loop.invariant.1.keys-long, c.before.before.before.before.before.before.before.before.before.before.before.before.before.before.before.before.before.requires.0)
+same_length c = omega (arith, c.before.before.before.before.before.before.before.take-key.auto.0, c.before.before.before.before.before.before.before.before.before.before.before.before.before.loop.invariant.1.keys_long, c.before.before.before.before.before.before.before.before.before.before.before.before.before.before.before.before.before.requires.0)
 
 same-length-2 : tie.Need-same-length-2 invariant-loop decreases-loop
-same-length-2 c = omega (arith, c.before.before.before.before.before.before.before.take-key.auto.1.0, c.before.before.before.before.before.before.before.before.before.before.before.before.before.loop.invariant.1.counts-long, c.before.before.before.before.before.before.before.before.before.before.before.before.before.before.before.before.before.requires.1)
+same-length-2 c = omega (arith, c.before.before.before.before.before.before.before.take-key.auto.1.0, c.before.before.before.before.before.before.before.before.before.before.before.before.before.loop.invariant.1.counts_long, c.before.before.before.before.before.before.before.before.before.before.before.before.before.before.before.before.before.requires.1)
 
 returns : tie.Need-returns invariant-loop decreases-loop
 returns c =
@@ -83,10 +83,10 @@ loop-again c =
     (omega (arith, c.before.before.before.before.before.before.before.before.before.before.before.before), k.holding c.if1.false, run_next s.args.most (numbers_in t list) l.loop.keys l.loop.counts l.loop.n l.loop.i c.before.before.before.before.before.before.before.before.before.before.key-number.result (omega (arith, length_numbers t list, c.before.before.before.before.before.before.before.before.before.before.before.before)) (here t list l.loop.i _ (omega (arith, c.before.before.before.before.before.before.before.before.before.before.before.before)) c.before.before.before.before.before.before.before.before.before.before.key-number.ensures) l.loop.invariant.2 _ _ _ _ k c.if1.false)
 
 same-length-3 : tie.Need-same-length-3 invariant-loop decreases-loop
-same-length-3 c = omega (arith, c.before.loop.invariant.1.keys-long, c.before.before.before.before.before.requires.0)
+same-length-3 c = omega (arith, c.before.loop.invariant.1.keys_long, c.before.before.before.before.before.requires.0)
 
 same-length-4 : tie.Need-same-length-4 invariant-loop decreases-loop
-same-length-4 c = omega (arith, c.before.loop.invariant.1.counts-long, c.before.before.before.before.before.requires.1)
+same-length-4 c = omega (arith, c.before.loop.invariant.1.counts_long, c.before.before.before.before.before.requires.1)
 
 returns-2 : tie.Need-returns-2 invariant-loop decreases-loop
 returns-2 c =

@@ -35,7 +35,7 @@ returns c =
 begin-requires : tie.Need-begin-requires
 begin-requires c κs =
     let s = c.before.before.before.before.before.before.before.before.before in
-    (index_below s.args.most s.args.keys.now s.args.counts.now s.args.n s.args.key s.requires _ c.before.before.before.before.before.find.ensures, s.requires.keys-long, s.requires.counts-long, s.requires.few)
+    (index_below s.args.most s.args.keys.now s.args.counts.now s.args.n s.args.key s.requires _ c.before.before.before.before.before.find.ensures, s.requires.keys_long, s.requires.counts_long, s.requires.few)
 
 same-length-3 : tie.Need-same-length-3
 same-length-3 c = search rules

@@ -45,14 +45,14 @@ loop-again c =
     let s = l.before.before in
     let q = c.refused.ensures in
     let xs = s.args.gradient.now in
-    let f = s.args.frac-bits in
+    let f = s.args.frac_bits in
     (omega arith, omega (arith, q.0), λ z. coordinates_next floor_limit128 f nan xs l.loop.i (omega arith) (l.loop.invariant.2 (omega arith)) (coordinate_rule floor_limit128 (get_or xs l.loop.i nan) f) refl (q.1 (omega arith)))
 
 returns : tie.Need-returns invariant-loop decreases-loop
 returns c =
     let l = c.before in
     let s = l.before.before in
-    λ z. coordinates_end floor_limit128 s.args.frac-bits s.args.gradient.now l.loop.i (omega arith) (l.loop.invariant.2 z)
+    λ z. coordinates_end floor_limit128 s.args.frac_bits s.args.gradient.now l.loop.i (omega arith) (l.loop.invariant.2 z)
 
 pub count_refused_spec : {M : Type 1} → statement M
 count_refused_spec =

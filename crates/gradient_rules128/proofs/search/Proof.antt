@@ -34,7 +34,7 @@ returns c =
     let k = c.before.before in
     let l = k.before.before.before in
     let s = l.before.before in
-    coordinates_stop floor_limit128 s.args.frac-bits nan s.args.gradient.now l.loop.i (omega arith) l.loop.invariant.1 k.check-coordinate.result k.check-coordinate.ensures c.if1.true
+    coordinates_stop floor_limit128 s.args.frac_bits nan s.args.gradient.now l.loop.i (omega arith) l.loop.invariant.1 k.check-coordinate.result k.check-coordinate.ensures c.if1.true
 
 add-i : tie.Need-overflow-add-i invariant-loop decreases-loop
 add-i c = omega arith
@@ -47,7 +47,7 @@ loop-again c =
     let k = c.before.before in
     let l = k.before.before.before in
     let s = l.before.before in
-    (omega arith, coordinates_next floor_limit128 s.args.frac-bits nan s.args.gradient.now l.loop.i (omega arith) l.loop.invariant.1 k.check-coordinate.result k.check-coordinate.ensures c.if1.false)
+    (omega arith, coordinates_next floor_limit128 s.args.frac_bits nan s.args.gradient.now l.loop.i (omega arith) l.loop.invariant.1 k.check-coordinate.result k.check-coordinate.ensures c.if1.false)
 
 accepted-requires : tie.Need-accepted-requires invariant-loop decreases-loop
 accepted-requires c κs = omega arith
@@ -56,7 +56,7 @@ returns-2 : tie.Need-returns-2 invariant-loop decreases-loop
 returns-2 c =
     let l = c.before.before in
     let s = l.before.before in
-    c.accepted.ensures ∙ coordinates_end floor_limit128 s.args.frac-bits s.args.gradient.now l.loop.i (omega arith) l.loop.invariant.1
+    c.accepted.ensures ∙ coordinates_end floor_limit128 s.args.frac_bits s.args.gradient.now l.loop.i (omega arith) l.loop.invariant.1
 
 pub search_spec : {M : Type 1} → statement M
 search_spec =

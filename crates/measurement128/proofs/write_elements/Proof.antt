@@ -43,15 +43,15 @@ element-of-requires : tie.Need-element-of-requires invariant-loop decreases-loop
 element-of-requires c κs =
     let l = c.before.before in
     let s = l.before.before.before in
-    (usable_at floor_limit128 s.args.frac-bits nan s.args.gradient.now s.requires.0 l.loop.k (omega arith), s.requires.1.0)
+    (usable_at floor_limit128 s.args.frac_bits nan s.args.gradient.now s.requires.0 l.loop.k (omega arith), s.requires.1.0)
 
 store-requires : tie.Need-store-requires invariant-loop decreases-loop
 store-requires c κs =
     let l = c.before.before.before.before in
     let s = l.before.before.before in
     let d = s.args.row.now in
-    let w = fits s.args.frac-bits s.args.gradient.now d s.requires.1.1 in
-    omega (arith, same_elements (elements p128 s.args.frac-bits s.args.gradient.now) d l.loop.row l.loop.k w.0 w.1.1 l.loop.invariant.1, w.1.0)
+    let w = fits s.args.frac_bits s.args.gradient.now d s.requires.1.1 in
+    omega (arith, same_elements (elements p128 s.args.frac_bits s.args.gradient.now) d l.loop.row l.loop.k w.0 w.1.1 l.loop.invariant.1, w.1.0)
 
 add-k : tie.Need-overflow-add-k invariant-loop decreases-loop
 add-k c = search rules
@@ -66,7 +66,7 @@ loop-again c =
     let l = e.before.before.before in
     let s = l.before.before.before in
     let g = s.args.gradient.now in
-    let f = s.args.frac-bits in
+    let f = s.args.frac_bits in
     let d = s.args.row.now in
     let w = fits f g d s.requires.1.1 in
     let is = e.element-of.ensures ∙ sym (elements_at p128 f nan g l.loop.k (omega arith)) in
@@ -79,8 +79,8 @@ returns : tie.Need-returns invariant-loop decreases-loop
 returns c =
     let l = c.before in
     let s = l.before.before.before in
-    let w = fits s.args.frac-bits s.args.gradient.now s.args.row.now s.requires.1.1 in
-    words_end (elements p128 s.args.frac-bits s.args.gradient.now) s.args.row.now l.loop.row l.loop.k w.0 w.1.1 l.loop.invariant.1 (omega (arith, w.1.0))
+    let w = fits s.args.frac_bits s.args.gradient.now s.args.row.now s.requires.1.1 in
+    words_end (elements p128 s.args.frac_bits s.args.gradient.now) s.args.row.now l.loop.row l.loop.k w.0 w.1.1 l.loop.invariant.1 (omega (arith, w.1.0))
 
 pub write_elements_spec : {M : Type 1} → statement M
 write_elements_spec =

@@ -42,7 +42,7 @@ returns c =
     let n = c.before.before.norm-and-tests.ensures in
     let stream = c.before.before.before.before.before.before.before.before.before.stream-of in
     let T = length s.args.results.now in
-    let xs = elements p64 s.args.frac-bits s.args.gradient.now in
+    let xs = elements p64 s.args.frac_bits s.args.gradient.now in
     let drawn = from_buffer p64 s.args.per T _ xs _ stream.result (omega (arith, c.before.before.before.before.before.before.before.before.if1.true, d.auto.1.1.0)) d.ensures.0 n.1 in
     (n.0, results_are p64 s.args.per T s.args.seed.now xs _ _ s.requires.1.0.0 (bytes_all s.args.seed.now (λ j h. (c.before.before.before.before.before.before.before.before.before.before.before.shared-slice-known2.given j).fits)) stream.ensures.0 drawn)
 
@@ -56,7 +56,7 @@ returns-2 : tie.Need-returns-2
 returns-2 c =
     let s = c.before.before.before.before.before.before.before.before.before in
     let n = c.before.before.take-blocks.ensures in
-    (n.0, results_are p64 s.args.per (length s.args.results.now) s.args.seed.now (elements p64 s.args.frac-bits s.args.gradient.now) _ _ s.requires.1.0.0 (bytes_all s.args.seed.now (λ j h. (c.before.before.before.before.before.before.before.shared-slice-known2.given j).fits)) c.before.before.before.before.before.stream-of.ensures.0 n.1)
+    (n.0, results_are p64 s.args.per (length s.args.results.now) s.args.seed.now (elements p64 s.args.frac_bits s.args.gradient.now) _ _ s.requires.1.0.0 (bytes_all s.args.seed.now (λ j h. (c.before.before.before.before.before.before.before.shared-slice-known2.given j).fits)) c.before.before.before.before.before.stream-of.ensures.0 n.1)
 
 pub norm_from_seed_spec : {M : Type 1} → statement M
 norm_from_seed_spec =

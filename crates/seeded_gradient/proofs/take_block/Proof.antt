@@ -43,7 +43,7 @@ returns c =
     let d = c.before.before.before.before.before.before.before.before.before.before.draw in
     let b = c.before.before.before.before.norm-and-block.ensures in
     let T = length s.args.results.now in
-    (b.0, (d.ensures.1, from_buffer p64 s.args.per T _ (elements p64 s.args.frac-bits s.args.gradient.now) _ s.args.stream (omega (arith, c.before.before.before.before.before.before.before.before.before.before.before.before.if1.true, d.auto.1.1.0)) d.ensures.0 b.1))
+    (b.0, (d.ensures.1, from_buffer p64 s.args.per T _ (elements p64 s.args.frac_bits s.args.gradient.now) _ s.args.stream (omega (arith, c.before.before.before.before.before.before.before.before.before.before.before.before.if1.true, d.auto.1.1.0)) d.ensures.0 b.1))
 
 slice-aggregate-run-block : tie.Need-slice-aggregate-run-block
 slice-aggregate-run-block c = search rules

@@ -107,7 +107,7 @@ loop-again c =
     let e = l.t + c.before.before.before.before.before.block-len2.result in
     let r = c.before.before.before.take-block2 in
     let per = s.args.per in
-    let xs = elements p64 s.args.frac-bits s.args.gradient.now in
+    let xs = elements p64 s.args.frac_bits s.args.gradient.now in
     let h : l.t ≤ e = omega arith in
     let long = part_long l.t e l.results h b.inside in (
       omega (arith, b.inside, l.invariant.1),
@@ -131,7 +131,7 @@ returns c =
     let b = c.before.before.before.before.before.before.before.before.block-len in
     let per = s.args.per in
     let u = s.args.stream in
-    let xs = elements p64 s.args.frac-bits s.args.gradient.now in
+    let xs = elements p64 s.args.frac_bits s.args.gradient.now in
     let long = row_long b.result s.args.results.now b.ensures.0.1 in
     let end : l.t ≡ length s.args.results.now = omega (arith, c.before.loop-test.false, l.invariant.0, l.invariant.1, many c.before.before) in
     let begun = first_done p64 per xs u b.result _ r.new.1.1.1.1.1.0 _ (r.auto.1.1.1.1.1.0 ∙ long) long r.ensures.1.1 in

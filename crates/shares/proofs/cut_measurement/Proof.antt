@@ -49,7 +49,7 @@ same-length-3 : tie.Need-same-length-3
 same-length-3 c = search rules
 
 returns : tie.Need-returns
-returns c = (drawn_is c.before.before.before.before.before.before.before.before.before.before.before.before.before.before, (c.before.before.before.before.before.before.before.before.before.sub-rows.ensures, c.before.before.write-given.ensures ∙ ap (λ (v : List ℕ). c.before.before.before.before.before.before.before.before.before.before.before.before.before.before.before.before.before.before.before.before.before.before.args.wr ++ v) c.before.before.before.before.vf-seed.ensures))
+returns c = (drawn_is c.before.before.before.before.before.before.before.before.before.before.before.before.before.before, (c.before.before.before.before.before.before.before.before.before.sub-rows.ensures, c.before.before.write-given.ensures ∙ ap (λ (v : List ℕ). c.before.before.before.before.before.before.before.before.before.before.before.before.before.before.before.before.before.before.before.before.before.before.args.wr ++ v) c.before.before.before.before.vf_seed_lem.ensures))
 
 pub cut_measurement_spec : {M : Type 1} → statement M
 cut_measurement_spec =

@@ -75,7 +75,7 @@ returns c =
     let at = (T - 1) * 26 in
     let next = c.load.ensures ∙ last_after per T (T - 1) (at + 26 - at) _ s.args.stream s.requires.1.1.1.1 refl (as_many at 26) (r.ensures.1.1 ∙ ap (all_after per) f.ensures) in
     let bytes = ap (tile_of per) f.ensures ∙ starts_drawn per T s.args.stream in
-    (r.ensures.0, ((next, last_ready (T * per) s.args.stream c.load.result s.requires.1.1.1.0 next), r.ensures.1.0 ∙ ap (λ (bs : List ℕ). tests_of p64 per T bs (elements p64 s.args.frac-bits s.args.gradient.now)) bytes))
+    (r.ensures.0, ((next, last_ready (T * per) s.args.stream c.load.result s.requires.1.1.1.0 next), r.ensures.1.0 ∙ ap (λ (bs : List ℕ). tests_of p64 per T bs (elements p64 s.args.frac_bits s.args.gradient.now)) bytes))
 
 pub run_block_spec : {M : Type 1} → statement M
 run_block_spec =

@@ -41,7 +41,7 @@ loop-holds c =
     let s = c.before.before.before.before.before.before.before.before.before.before.before in
     let z = c.before.before.before.zero_row in
     let starts = states_of (length z.new.0) s.args.states.now in
-    (omega arith, refl, refl, refl, refl, refl, groups_start p64 s.args.per (tile_of s.args.per starts) (elements p64 s.args.frac-bits s.args.gradient.now) _ s.args.results.now z.ensures, after_none starts, (omega arith, norm_start s.args.frac-bits (words_of c.none.result) s.args.gradient.now))
+    (omega arith, refl, refl, refl, refl, refl, groups_start p64 s.args.per (tile_of s.args.per starts) (elements p64 s.args.frac_bits s.args.gradient.now) _ s.args.results.now z.ensures, after_none starts, (omega arith, norm_start s.args.frac_bits (words_of c.none.result) s.args.gradient.now))
 
 group-from-requires : tie.Need-group-from-requires invariant-loop decreases-loop
 group-from-requires c κs = (c.loop-test.true, (omega arith, omega (arith, c.before.before.before.before.before.before.before.before.before.before.before.before.before.requires.1.0.0)))
@@ -80,14 +80,14 @@ add-block-requires c κs =
     let none = c.before.before.before.before.before.before.before.before.before.before.before.before.before.before.before.before.none in
     let r = g.group-from.result in
     let xs = s.args.gradient.now in
-    let f = s.args.frac-bits in
+    let f = s.args.frac_bits in
     let per = s.args.per in
     let rows = s.requires.1.1.0 in
     let T : length l.results ≡ length s.args.results.now = l.invariant.5 ∙ z.auto.0 in
     let long = part_long r.first r.last xs (fits g).in_order (fits g).coordinates in
     let on : l.j ≤ r.end = omega (arith, (fits g).goes_on) in
     let short : per < 65536 = omega (arith, s.requires.1.0.0) in
-    (usable_take floor_limit64 f (r.last - r.first) (drop r.first xs) (usable_drop floor_limit64 f r.first xs s.requires.0.0), (s.requires.0.1, ((roomy (length s.args.results.now) _ _ _ _ T rows.0.0 (fits g).few (d.auto.1.1.1.0 ∙ l.invariant.2) rows.0.1.1, (rw long (fits g).few-coordinates, omega (arith, (fits g).few))), ((omega (arith, l.invariant.3, rows.1.0), omega (arith, l.invariant.4, rows.1.1)), (groups_below p64 per _ (elements p64 f xs) l.results l.j _ (lit< tt) l.invariant.6, top_fits l.norm.top none.result.top l.j r.end (4 * (r.end - l.j)) _ per l.invariant.8.0 on (fits g).inside (none_room none.result per none.ensures short) refl (le_refl _))))))
+    (usable_take floor_limit64 f (r.last - r.first) (drop r.first xs) (usable_drop floor_limit64 f r.first xs s.requires.0.0), (s.requires.0.1, ((roomy (length s.args.results.now) _ _ _ _ T rows.0.0 (fits g).few (d.auto.1.1.1.0 ∙ l.invariant.2) rows.0.1.1, (rw long (fits g).few_coordinates, omega (arith, (fits g).few))), ((omega (arith, l.invariant.3, rows.1.0), omega (arith, l.invariant.4, rows.1.1)), (groups_below p64 per _ (elements p64 f xs) l.results l.j _ (lit< tt) l.invariant.6, top_fits l.norm.top none.result.top l.j r.end (4 * (r.end - l.j)) _ per l.invariant.8.0 on (fits g).inside (none_room none.result per none.ensures short) refl (le_refl _))))))
 
 loop-less : tie.Need-loop-smaller invariant-loop decreases-loop
 loop-less c = omega (arith, fits c.before.before.before.before.before.before.before.before.before.before.before.before.before.before.before.before.before.before.before.before)
@@ -103,7 +103,7 @@ loop-again c =
     let none = c.before.before.before.before.before.before.before.before.before.before.before.before.before.before.before.before.before.before.before.before.before.before.before.none in
     let r = g.group-from.result in
     let xs = s.args.gradient.now in
-    let f = s.args.frac-bits in
+    let f = s.args.frac_bits in
     let per = s.args.per in
     let j = l.j in
     let n = r.end - j in
@@ -148,7 +148,7 @@ returns c =
     let l = c.before.loop in
     let z = c.before.before.before.before.before.zero_row in
     let none = c.before.before.none in
-    let f = s.args.frac-bits in
+    let f = s.args.frac_bits in
     let per = s.args.per in
     let ws = s.args.states.now in
     let xs = elements p64 f s.args.gradient.now in

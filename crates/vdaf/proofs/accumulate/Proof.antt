@@ -19,7 +19,7 @@ add-rows-requires : tie.Need-add-rows-requires
 add-rows-requires c κs =
     let b = c.before in
     let t = accumulate_met Field64 _ _ _ _ b.before.before.check-accumulate.ensures b.if1.false in
-    (t.left-long ∙ sym t.right-long, (t.left_below, t.right-below))
+    (t.left_long ∙ sym t.right_long, (t.left_below, t.right_below))
 
 same-length-2 : tie.Need-same-length-2
 same-length-2 c = search rules

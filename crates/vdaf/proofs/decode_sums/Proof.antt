@@ -79,7 +79,7 @@ loop-again : tie.Need-loop-preserved invariant-loop decreases-loop
 loop-again c =
     let l = c.before.before.before.before.before in
     let s = l.before.before.before.before in
-    turn s.args.frac-bits s.args.left.now s.args.right.now s.args.decoded.now s.requires.0 l.loop.decoded l.loop.i l.loop.invariant (omega arith) c.before.add.result c.decode.result c.before.add.ensures c.decode.ensures
+    turn s.args.frac_bits s.args.left.now s.args.right.now s.args.decoded.now s.requires.0 l.loop.decoded l.loop.i l.loop.invariant (omega arith) c.before.add.result c.decode.result c.before.add.ensures c.decode.ensures
 
 same_length : tie.Need-same-length invariant-loop decreases-loop
 same_length c = c.before.loop.invariant.1
@@ -88,7 +88,7 @@ returns : tie.Need-returns invariant-loop decreases-loop
 returns c =
     let l = c.before in
     let s = l.before.before.before.before in
-    l.loop.invariant.2 ∙ walked_end _ _ l.loop.i (long s.args.frac-bits s.args.left.now s.args.right.now s.args.decoded.now s.requires.0) (omega arith)
+    l.loop.invariant.2 ∙ walked_end _ _ l.loop.i (long s.args.frac_bits s.args.left.now s.args.right.now s.args.decoded.now s.requires.0) (omega arith)
 
 pub decode_sums_spec : {M : Type 1} → statement M
 decode_sums_spec =

@@ -23,7 +23,7 @@ decode-sums-requires : tie.Need-decode-sums-requires
 decode-sums-requires c κs =
     let b = c.before.before in
     let t = unshard_met Field64 _ _ _ _ _ b.before.before.check-unshard.ensures b.if1.false in
-    ((t.0.left-long ∙ sym t.1, t.0.right-long ∙ sym t.1), ((t.0.left_below, t.0.right-below), scale_is _ _ c.before.new.ensures))
+    ((t.0.left_long ∙ sym t.1, t.0.right_long ∙ sym t.1), ((t.0.left_below, t.0.right_below), scale_is _ _ c.before.new.ensures))
 
 same-length-2 : tie.Need-same-length-2
 same-length-2 c = search rules

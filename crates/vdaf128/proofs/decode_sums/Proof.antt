@@ -55,13 +55,13 @@ sum-at-requires : tie.Need-sum-at-requires invariant-loop decreases-loop
 sum-at-requires c κs =
     let l = c.before in
     let s = l.before.before.before.before in
-    (sum_inside s.args.left.now s.args.right.now (rows_same s.args.frac-bits s.args.left.now s.args.right.now s.args.decoded.now s.requires.0) l.loop.i (omega (arith, s.requires.0.0, l.loop.invariant.1)), s.requires.1.0)
+    (sum_inside s.args.left.now s.args.right.now (rows_same s.args.frac_bits s.args.left.now s.args.right.now s.args.decoded.now s.requires.0) l.loop.i (omega (arith, s.requires.0.0, l.loop.invariant.1)), s.requires.1.0)
 
 decode-requires : tie.Need-decode-requires invariant-loop decreases-loop
 decode-requires c κs =
     let l = c.before.before in
     let s = l.before.before.before.before in
-    (sum_below_lem _ _ _ c.sum-at.ensures, (small s.args.frac-bits s.args.left.now s.args.right.now s.args.decoded.now s.requires.0 s.requires.1.1.0 l.loop.i (omega (arith, l.loop.invariant.1)) _ c.sum-at.ensures, s.requires.1.1.1))
+    (sum_below_lem _ _ _ c.sum-at.ensures, (small s.args.frac_bits s.args.left.now s.args.right.now s.args.decoded.now s.requires.0 s.requires.1.1.0 l.loop.i (omega (arith, l.loop.invariant.1)) _ c.sum-at.ensures, s.requires.1.1.1))
 
 mul-decoded : tie.Need-overflow-mul-decoded invariant-loop decreases-loop
 mul-decoded c = search rules
@@ -80,7 +80,7 @@ loop-again c =
     let k = c.before in
     let l = k.before.before in
     let s = l.before.before.before.before in
-    turn s.args.frac-bits s.args.left.now s.args.right.now s.args.decoded.now s.requires.0 l.loop.decoded l.loop.i l.loop.invariant (omega arith) (number_of k.sum-at.result) c.decode.result k.sum-at.ensures c.decode.ensures
+    turn s.args.frac_bits s.args.left.now s.args.right.now s.args.decoded.now s.requires.0 l.loop.decoded l.loop.i l.loop.invariant (omega arith) (number_of k.sum-at.result) c.decode.result k.sum-at.ensures c.decode.ensures
 
 same_length : tie.Need-same-length invariant-loop decreases-loop
 same_length c = c.before.loop.invariant.1
@@ -89,7 +89,7 @@ returns : tie.Need-returns invariant-loop decreases-loop
 returns c =
     let l = c.before in
     let s = l.before.before.before.before in
-    l.loop.invariant.2 ∙ walked_end _ _ l.loop.i (long s.args.frac-bits s.args.left.now s.args.right.now s.args.decoded.now s.requires.0) (omega arith)
+    l.loop.invariant.2 ∙ walked_end _ _ l.loop.i (long s.args.frac_bits s.args.left.now s.args.right.now s.args.decoded.now s.requires.0) (omega arith)
 
 pub decode_sums_spec : {M : Type 1} → statement M
 decode_sums_spec =

@@ -34,7 +34,7 @@ second_long : (c : tie.After-take-bits invariant-loop decreases-loop) → length
 second_long c = length-take-le c.before.before.before.before.before.args.q _ (omega (arith, row_long c, c.before.before.before.before.before.requires.1.1))
 
 loop-holds : tie.Need-loop-init invariant-loop decreases-loop
-loop-holds c = ((refl, omega arith), took_start p64 c.before.args.frac-bits c.before.args.from c.before.args.gradient.now c.before.requires.0)
+loop-holds c = ((refl, omega arith), took_start p64 c.before.args.frac_bits c.before.args.from c.before.args.gradient.now c.before.requires.0)
 
 sub-at-most : tie.Need-overflow-sub-at-most invariant-loop decreases-loop
 sub-at-most c = c.before.loop.invariant.0.1
@@ -71,7 +71,7 @@ take-elements-requires c κs =
     let row = length-take-le n l.row (omega (arith, l.invariant.0, c.before.before.at_most.ensures)) in
     let part = part_long g l.at n (omega (arith, l.invariant.0, c.before.before.at_most.ensures)) in (
       l.invariant.1.placed,
-      ((usable_part floor_limit64 c.before.before.before.before.before.before.args.frac-bits l.at (l.at + n - l.at) g c.before.before.before.before.before.before.requires.1.0.0, c.before.before.before.before.before.before.requires.1.0.1), (row ∙ sym part, omega (arith, part, c.before.before.at_most.ensures))),
+      ((usable_part floor_limit64 c.before.before.before.before.before.before.args.frac_bits l.at (l.at + n - l.at) g c.before.before.before.before.before.before.requires.1.0.0, c.before.before.before.before.before.before.requires.1.0.1), (row ∙ sym part, omega (arith, part, c.before.before.at_most.ensures))),
     )
 
 loop-less : tie.Need-loop-smaller invariant-loop decreases-loop
@@ -82,7 +82,7 @@ loop-again c =
     let l = c.before.before.before.before.before.before.loop in
     let t = c.before.take-elements in (
       (length_front l.row t.new.1.1.1.1.0 c.before.before.before.before.at_most.result t.auto.1.1.1.1.0 ∙ l.invariant.0.0, omega (arith, l.invariant.0, c.before.before.before.before.at_most.ensures)),
-      took_next p64 c.before.before.before.before.before.before.before.before.args.frac-bits c.before.before.before.before.before.before.before.before.args.from l.parts t.result c.before.before.before.before.before.before.before.before.args.gradient.now l.at c.before.before.before.before.at_most.result l.invariant.1 t.ensures,
+      took_next p64 c.before.before.before.before.before.before.before.before.args.frac_bits c.before.before.before.before.before.before.before.before.args.from l.parts t.result c.before.before.before.before.before.before.before.before.args.gradient.now l.at c.before.before.before.before.at_most.result l.invariant.1 t.ensures,
     )
 
 array-borrow-prefix-row-2 : tie.Need-array-borrow-prefix-row-2 invariant-loop decreases-loop
@@ -110,7 +110,7 @@ take-bits-requires-2 c κs =
 returns : tie.Need-returns invariant-loop decreases-loop
 returns c =
     let l = c.before.before.before.before.before.before.before.loop in
-    let f = c.before.before.before.before.before.before.before.before.before.args.frac-bits in
+    let f = c.before.before.before.before.before.before.before.before.before.args.frac_bits in
     let t = c.before.before.before.before.take-bits in
     let xs = subst (λ (g : List Float). TookPiece p64 c.before.before.before.before.before.before.before.before.before.args.from l.parts (elements p64 f g)) (take_all l.at c.before.before.before.before.before.before.before.before.before.args.gradient.now (omega (arith, c.before.before.before.before.before.before.loop-test.false))) l.invariant.1 in
     let vs = subst (λ (n : ℕ). TookPiece p64 l.parts t.result (bits n c.before.before.before.before.before.before.before.before.before.args.v)) (first_long c.before.before.before.before.before.before) t.ensures in

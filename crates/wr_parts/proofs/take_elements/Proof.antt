@@ -20,7 +20,7 @@ take-piece-requires : tie.Need-take-piece-requires
 take-piece-requires c κs =
     let w = c.before.before.before.write-elements in
     let long : length w.new.1.1.1.0 ≡ length c.before.before.before.before.before.before.before.args.part.now = w.auto.1.1.1.0 ∙ c.before.before.before.before.before.before.before.requires.1.1.0 in
-    (c.before.before.before.before.before.before.before.requires.0, (subst (Below p64) (sym w.ensures) (elements_below p64 c.before.before.before.before.before.before.before.args.frac-bits (lit< tt) c.before.before.before.before.before.before.before.args.part.now), omega (arith, long, c.before.before.before.before.before.before.before.requires.1.1.1)))
+    (c.before.before.before.before.before.before.before.requires.0, (subst (Below p64) (sym w.ensures) (elements_below p64 c.before.before.before.before.before.before.before.args.frac_bits (lit< tt) c.before.before.before.before.before.before.before.args.part.now), omega (arith, long, c.before.before.before.before.before.before.before.requires.1.1.1)))
 
 same_length : tie.Need-same-length
 same_length c = search rules

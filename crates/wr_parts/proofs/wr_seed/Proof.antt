@@ -89,7 +89,7 @@ sub-requires c κs = (norm_room c.before.before.before.before, v_below c.before.
 take-all-requires : tie.Need-take-all-requires
 take-all-requires c κs =
     let s = c.before.before.before.before.before in
-    (c.before.begin-parts.ensures.0.placed, ((usable s, scale_is s.args.param s.args.pine s.requires.0.0), omega (arith, bits_are s, (sizes_64 s.args.param s.requires.0.1).norm-bits)))
+    (c.before.begin-parts.ensures.0.placed, ((usable s, scale_is s.args.param s.args.pine s.requires.0.0), omega (arith, bits_are s, (sizes_64 s.args.param s.requires.0.1).norm_bits)))
 
 mul-wanted : tie.Need-overflow-mul-wanted
 mul-wanted c = record { fits = omega (arith, within c.before.before.before.before.before.before, sized c.before.before.before.before.before.before) }

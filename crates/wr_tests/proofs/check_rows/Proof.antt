@@ -28,7 +28,7 @@ returns c =
     let e = c.before.before.before in
     let s = e.before.before.before.before.before in
     c.or3.ensures
-    ∙ (λ i. first (e.before.before.check-len.ensures i) ((c.before.or2.ensures ∙ ap (first s.args.row-2) (c.before.before.or.ensures ∙ ap₂ first e.before.check-len2.ensures e.check-elements.ensures)) i))
+    ∙ (λ i. first (e.before.before.check-len.ensures i) ((c.before.or2.ensures ∙ ap (first s.args.row_2) (c.before.before.or.ensures ∙ ap₂ first e.before.check-len2.ensures e.check-elements.ensures)) i))
 
 pub check_rows_spec : {M : Type 1} → statement M
 check_rows_spec =

@@ -30,7 +30,7 @@ run-lent-requires c κs =
     let z = c.before.if1.false in
     let m = met Field64 s.args.param s.args.gradient.now s.args.stream.now s.args.results.now _ v z in
     let w = room Field64 s.args.param s.args.gradient.now s.args.stream.now s.args.results.now _ v z words_64 in
-    (((w.tests.0, rw w.whole (le_of_eq (sym m.row-2))), (w.per.1, omega (arith, w.per.0.1))), m.below)
+    (((w.tests.0, rw w.whole (le_of_eq (sym m.row_2))), (w.per.1, omega (arith, w.per.0.1))), m.below)
 
 same-length-2 : tie.Need-same-length-2
 same-length-2 c = search rules

@@ -39,7 +39,7 @@ run-from-seed-requires c κs =
     let z = c.before.if1.false in
     let m = met Field64 s.args.param s.args.gradient.now (bytes s) s.args.results.now _ v z in
     let w = room Field64 s.args.param s.args.gradient.now (bytes s) s.args.results.now _ v z words_64 in
-    ((is_seed _ s.args.seed.now w.some (le_of_eq (sym m.row-2)), w.tests), (m.below, w.per))
+    ((is_seed _ s.args.seed.now w.some (le_of_eq (sym m.row_2)), w.tests), (m.below, w.per))
 
 same-length-2 : tie.Need-same-length-2
 same-length-2 c = search rules

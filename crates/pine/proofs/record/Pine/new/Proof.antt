@@ -25,7 +25,7 @@ record Known (F : Field) (i : PineParam) (q w : ℕ) : Type 0 where
 known_of : (i : PineParam) (q w : ℕ) (d : Derivable i) → q ≡ sq_norm_bits_of i → w ≡ wr_test_bits_of i → Known d.F i q w
 known_of i q w d e f =
     let z = sizes_of i d in
-    rw (e, f) (record { norm_bits = z.norm-bits; bound_bits = z.bound-bits; test_bits_lem = z.test-bits; limits = limits_of i d })
+    rw (e, f) (record { norm_bits = z.norm_bits; bound_bits = z.bound_bits; test_bits_lem = z.test_bits_lem; limits = limits_of i d })
 
 -- what the locals are, where all of them are known
 module _ (c : tie.After-wr-test-exponent) where
@@ -59,7 +59,7 @@ wr-test-exponent-requires : tie.Need-wr-test-exponent-requires
 wr-test-exponent-requires c κs =
     let d = c.before.before.requires in
     let l = limits_of c.before.before.args.param d in
-    (l.alpha-over.0, le_trans l.norm.1 d.narrow)
+    (l.alpha_over.0, le_trans l.norm.1 d.narrow)
 
 cast-wr-test-bits : tie.Need-overflow-cast-wr-test-bits
 cast-wr-test-bits c = search rules
@@ -108,7 +108,7 @@ add-t12 c =
 chunk-count-requires-3 : tie.Need-chunk-count-requires-3
 chunk-count-requires-3 c κs =
     let k = known c.before.before.before.before.before.before in
-    (k.limits.chunk-norm.0, (k.limits.chunk-norm.1, omega arith))
+    (k.limits.chunk_norm.0, (k.limits.chunk_norm.1, omega arith))
 
 returns : tie.Need-returns
 unfolding pine_of input_len_of encoded_input_len_of bit_checked_len_of gadget_calls_of gadget_calls_norm sq_norm_bound_of
