@@ -1,0 +1,6 @@
+-- `c_inputs::param_of` meets its contract. Assumes nothing.
+use borrow.Author.Rules.{rules}
+use Rattle.c_inputs.proofs.param_of.Goals as goal
+
+pub returns : goal.returns
+returns c = simp (c.switch_of.ensures, c.rule_of-wr_test_rule.ensures)

@@ -1,0 +1,38 @@
+-- `doubles::check_coordinate` meets its contract: rule 8, then rule 17, by the product with the scale. Assumes nothing.
+use Rattle.std.proofs.Common.{T, sym, ◌∙◌, subst, lit<, rules}
+use borrow.Author.Tests.{not-true, not-false}
+use lib.Ieee.{binary64, fits}
+use Rattle.doubles.specs.Doubles.{floor_limit64}
+use Rattle.doubles.proofs.Accept.{usable_is, limit_is, answer_8, answer_17, answer_none}
+use Rattle.doubles.proofs.check_coordinate.Lts as lts
+use Rattle.doubles.proofs.check_coordinate.Reads as reads
+use Rattle.doubles.proofs.check_coordinate.Tie as tie
+use Rattle.std.proofs.Common.{ap}
+use mathlib.Core.Bool.{not}
+use Rattle.doubles.proofs.check_coordinate.Goals as goal
+
+abbrev Start : Type 0
+Start = lts.Start tie.the-claims reads.Pre reads.Post
+
+held : (c : Start) → T (fits binary64 c.args.x)
+held c = subst T (sym c.well_formed.0.1) tt
+
+pub returns-then-not-usable : goal.returns-then-not-usable
+returns-then-not-usable c =
+    let s = c in
+    answer_8 floor_limit64 s.args.x s.args.frac_bits (not-false _ (sym c.usable.ensures ∙ c.if-not-usable.true))
+
+pub returns-then-not-within_limit : goal.returns-then-not-within_limit
+returns-then-not-within_limit c =
+    let u = c in
+    let s = u in
+    let h = usable_is s.args.x _ u.usable.ensures (ap not u.if-not-usable.false) in
+    answer_17 floor_limit64 s.args.x s.args.frac_bits h (sym (limit_is floor_limit64 (lit< tt) s.args.x s.args.scale s.args.frac_bits (held s.before.before.before.before) s.requires h _ c.within_limit.ensures) ∙ ap not c.if-not-within_limit.true)
+
+pub returns : goal.returns
+returns c =
+    let w = c in
+    let u = w in
+    let s = u in
+    let h = usable_is s.args.x _ u.usable.ensures (ap not u.if-not-usable.false) in
+    c.accepted.ensures ∙ answer_none floor_limit64 s.args.x s.args.frac_bits h (sym (limit_is floor_limit64 (lit< tt) s.args.x s.args.scale s.args.frac_bits (held s.before.before.before.before.before) s.requires h _ w.within_limit.ensures) ∙ ap not c.if-not-within_limit.false)

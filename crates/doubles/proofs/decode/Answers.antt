@@ -1,0 +1,12 @@
+-- `doubles::decode` meets its contract. Assumes nothing.
+use Rattle.std.proofs.Common.{ap, ◌∙◌, rules}
+use lib.Ieee.{Float, binary64, div}
+use Rattle.field64.specs.Field.{p64}
+use Rattle.doubles.specs.Doubles.{centred, decoded}
+use Rattle.doubles.proofs.decode.Goals as goal
+
+pub returns : goal.returns
+unfolding decoded
+returns c =
+    let s = c in
+    ap (λ (x : Float). div binary64 x s.args.scale) c.centred_of.ensures ∙ ap (λ (x : Float). div binary64 (centred p64 s.args.y) x) s.requires.fact_2

@@ -1,0 +1,17 @@
+-- `doubles::usable` meets its contract. Assumes nothing.
+use Rattle.std.proofs.Common.{sym, ap, ◌∙◌, rules}
+use lib.Ieee.{of_bits}
+use Rattle.doubles.specs.Steps.{normal_size}
+use Rattle.doubles.proofs.Accept.{usable_normal, usable_other}
+use Rattle.doubles.proofs.usable.Goals as goal
+
+pub returns-then-normal_size : goal.returns-then-normal_size
+returns-then-normal_size c =
+    let s = c in
+    usable_normal s.args.x (ap normal_size (sym s.size.ensures) ∙ sym c.normal_size.ensures ∙ c.if-normal_size.true)
+
+pub returns : goal.returns
+unfolding of_bits
+returns c =
+    let s = c in
+    usable_other s.args.x (ap normal_size (sym s.size.ensures) ∙ sym c.normal_size.ensures ∙ c.if-normal_size.false)

@@ -1,0 +1,12 @@
+-- `doubles128::decode` meets its contract. Assumes nothing.
+use Rattle.std.proofs.Common.{ap, ◌∙◌, rules}
+use lib.Ieee.{Float, binary64, div}
+use Rattle.field128.specs.Field128.{p128, number_of}
+use Rattle.doubles.specs.Doubles.{centred, decoded}
+use Rattle.doubles128.proofs.decode.Goals as goal
+
+pub returns : goal.returns
+unfolding decoded
+returns c =
+    let s = c in
+    ap (λ (x : Float). div binary64 x s.args.scale) c.centred_of.ensures ∙ ap (λ (x : Float). div binary64 (centred p128 (number_of s.args.y)) x) s.requires.fact_3

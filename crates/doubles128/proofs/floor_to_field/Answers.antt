@@ -1,0 +1,38 @@
+-- `doubles128::floor_to_field` meets its contract. Assumes nothing.
+use Rattle.std.proofs.Common.{◌≤◌, ltb, rules}
+use Rattle.doubles.specs.Steps.{floor_at}
+use Rattle.doubles128.proofs.Sizes.{flag_is}
+use Rattle.doubles128.proofs.Words.{Signed, signed_of, sign_fits, upper_word, upper_fits, carried, element_is}
+use Rattle.doubles128.proofs.floor_to_field.Lts as lts
+use Rattle.doubles128.proofs.floor_to_field.Reads as reads
+use Rattle.doubles128.proofs.floor_to_field.Tie as tie
+use Rattle.doubles128.proofs.floor_to_field.Goals as goal
+
+abbrev After-less-carry : Type 0
+After-less-carry = lts.After-less tie.the-claims reads.Pre reads.Post tie.handed_clauses
+
+parts : (c : After-less-carry) → Signed (floor_at c.args.w) c.far_floor.result c.sign_of-sign.result
+parts c =
+    let f = c in
+    let g = f in
+    let s = g in
+    signed_of s.args.w _ _ s.requires f.far_floor.ensures g.sign_of-sign.ensures
+
+few : (c : After-less-carry) → c.sign_of-sign.result ≤ 1
+few c = sign_fits _ _ _ (parts c)
+
+pub overflow_mul-high : goal.overflow_mul-high
+overflow_mul-high c = record { fits = upper_word c.sign_of-sign.result (few c) }
+
+pub overflow_add-high : goal.overflow_add-high
+overflow_add-high c =
+    let g = c in
+    record { fits = upper_fits g.sign_of-sign.result c.less-carry.result (few c) (flag_is _ (ltb c.wrapping_add_u64-low.result g.sign_of-sign.result) c.less-carry.ensures) }
+
+pub returns : goal.returns
+returns c =
+    let a = c in
+    let f = a in
+    let g = f in
+    element_is _ f.far_floor.result g.sign_of-sign.result a.wrapping_add_u64-low.result c.less-carry.result (parts c)
+    (carried f.far_floor.result g.sign_of-sign.result a.wrapping_add_u64-low.result c.less-carry.result (few c) (search rules) a.wrapping_add_u64-low.ensures.value c.less-carry.ensures)

@@ -1,0 +1,67 @@
+-- `field128::joining::join` meets its contract. Assumes nothing.
+use Rattle.std.proofs.Common.{◌^◌, ◌<◌, rules}
+use Rattle.field128.specs.Field128.{number_of}
+use Rattle.field128.proofs.Joined.{joined_is, flag_fits}
+use Rattle.field128.proofs.joining.join.Lts as lts
+use Rattle.field128.proofs.joining.join.Reads as reads
+use Rattle.field128.proofs.joining.join.Tie as tie
+use Rattle.field128.proofs.joining.join.Goals as goal
+
+abbrev Start : Type 0
+Start = lts.Start tie.the-claims reads.Pre reads.Post tie.handed_clauses
+
+abbrev After-without_p-t : Type 0
+After-without_p-t = lts.After-without_p tie.the-claims reads.Pre reads.Post tie.handed_clauses
+
+abbrev After-plus-less_low : Type 0
+After-plus-less_low = lts.After-plus tie.the-claims reads.Pre reads.Post tie.handed_clauses
+
+abbrev After-plus_with-less : Type 0
+After-plus_with-less = lts.After-plus_with tie.the-claims reads.Pre reads.Post tie.handed_clauses
+
+abbrev After-plus-whole_low : Type 0
+After-plus-whole_low = lts.After-plus2 tie.the-claims reads.Pre reads.Post tie.handed_clauses
+
+abbrev After-plus_with-whole : Type 0
+After-plus_with-whole = lts.After-plus_with2 tie.the-claims reads.Pre reads.Post tie.handed_clauses
+
+b_words : (c : Start) → (c.args.b.low < 2 ^ 64) × (c.args.b.high < 2 ^ 64)
+b_words c = (search rules, search rules)
+
+rest_words : (c : After-without_p-t) → (c.without_p-t.result.made.low < 2 ^ 64) × (c.without_p-t.result.made.high < 2 ^ 64)
+rest_words c = (search rules, search rules)
+
+less_low : (c : After-plus-less_low) → c.plus-less_low.result.low < 2 ^ 64
+less_low c = search rules
+
+less_high : (c : After-plus_with-less) → c.plus_with-less.result.low < 2 ^ 64
+less_high c = search rules
+
+whole_low : (c : After-plus-whole_low) → c.plus-whole_low.result.low < 2 ^ 64
+whole_low c = search rules
+
+whole_high : (c : After-plus_with-whole) → c.plus_with-whole.result.low < 2 ^ 64
+whole_high c = search rules
+
+pub returns : goal.returns
+returns c =
+    let q = c in
+    let y = q in
+    let x = y in
+    let v = x in
+    let u = v in
+    let t = u in
+    let s = t in
+    let a = s.args.a in
+    let b = s.args.b in
+    let r = t.without_p-t.result.made in
+    let ul = u.plus-less_low.result in
+    let vl = v.plus_with-less.result in
+    let xl = x.plus-whole_low.result in
+    let yl = y.plus_with-whole.result in
+    record {
+      made_value = joined_is a.low a.high b.low b.high r.low r.high t.without_p-t.result.below ul.low ul.high vl.low vl.high xl.low xl.high yl.low yl.high _ _ s.requires
+          (b_words s.before.before.before.before.before.before.before.before).0 (b_words s.before.before.before.before.before.before.before.before).1 (rest_words t.before.before.before.before.before.before.before).0 (rest_words t.before.before.before.before.before.before.before).1 (less_low u.before.before.before.before.before) (less_high v.before.before.before.before) (whole_low x.before.before.before) (whole_high y.before.before) (flag_fits (number_of b) _ t.without_p-t.ensures.below_value) v.plus_with-less.ensures.1
+          t.without_p-t.ensures.p128_value u.plus-less_low.ensures.0 v.plus_with-less.ensures.0 x.plus-whole_low.ensures.0 y.plus_with-whole.ensures.0 q.pick.ensures c.pick-2.ensures;
+      below_value = t.without_p-t.ensures.below_value;
+    }

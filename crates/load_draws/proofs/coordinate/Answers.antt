@@ -1,0 +1,19 @@
+-- `load_draws::coordinate` meets its contract. Assumes nothing.
+use borrow.Author.Rules.{rules}
+use lib.Ieee.{of_bits}
+use Rattle.load_draws.proofs.Drawn.{counted_below, counted_above, coordinate_below, coordinate_above}
+use Rattle.load_draws.proofs.coordinate.Goals as goal
+
+pub int_to_float-result : goal.int_to_float-result
+int_to_float-result c = counted_below c.args.x
+
+pub int_to_float-result-else-low-lt32768 : goal.int_to_float-result-else-low-lt32768
+int_to_float-result-else-low-lt32768 c = counted_above c.args.x
+
+pub returns-then-low-lt32768 : goal.returns-then-low-lt32768
+unfolding of_bits
+returns-then-low-lt32768 c = coordinate_below _ c.if-low-lt32768.true
+
+pub returns-else-low-lt32768 : goal.returns-else-low-lt32768
+unfolding of_bits
+returns-else-low-lt32768 c = coordinate_above _ c.if-low-lt32768.false

@@ -1,0 +1,18 @@
+-- `load_draws::fill_gradient` meets its contract. Assumes nothing.
+use mathlib.Core.Path.{◌≡◌, refl, sym, ap, ◌∙◌}
+use mathlib.Core.List.{map}
+use Prim.Native.Nat.{◌-◌}
+use native.Mathlib.Omega.{arith}
+use borrow.Author.Rules.{rules}
+use lib.ListN.{length}
+use Rattle.rows.proofs.Walk.{Walking, walking_next, walked_end}
+use Rattle.load_draws.specs.Draws.{states, coordinate, step, after}
+use Rattle.load_draws.proofs.Drawn.{after_next, length_drawn, drawn_at}
+use Rattle.load_draws.proofs.fill_gradient.Given as goal
+
+-- the row has the first i draws, and x is the state that the last of them used
+abbrev pub invariant-loop-i : goal.invariant-loop-i
+invariant-loop-i l = Walking (map coordinate (states (length l.initial.row) l.seed)) l.initial.row l.row l.i × (l.x ≡ after l.i l.seed)
+
+abbrev pub decreases-loop-i : goal.decreases-loop-i
+decreases-loop-i l = length l.initial.row - l.i

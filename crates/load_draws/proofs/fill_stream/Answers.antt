@@ -1,0 +1,35 @@
+-- `load_draws::fill_stream` meets its contract. Assumes nothing.
+use mathlib.Core.Path.{◌≡◌, refl, sym, ap, ◌∙◌}
+use mathlib.Core.List.{map}
+use Prim.Native.Nat.{◌-◌}
+use native.Mathlib.Omega.{arith}
+use borrow.Author.Rules.{rules}
+use lib.ListN.{length}
+use Rattle.rows.proofs.Walk.{Walking, walking_next, walked_end}
+use Rattle.load_draws.specs.Draws.{states, stream_byte, step, after}
+use Rattle.load_draws.proofs.Drawn.{after_next, length_drawn, drawn_at}
+use Rattle.load_draws.proofs.fill_stream.Goals as goal
+
+pub loop-i-init : goal.loop-i-init
+unfolding after
+loop-i-init c = ((search rules, refl, refl), refl)
+
+pub loop-i-preserved : goal.loop-i-preserved
+loop-i-preserved c =
+    let l = c in
+    let s = l in
+    let d = s.args.row.now in
+    let e = c.step-s.ensures in (
+      walking_next 0 (map stream_byte (states (length d) s.args.state)) d l.loop-i.row l.loop-i.i (stream_byte c.step-s.result) (length_drawn stream_byte (length d) s.args.state) l.loop-i.invariant.0 (omega arith)
+          (ap stream_byte e ∙ drawn_at stream_byte (length d) s.args.state l.loop-i.i l.loop-i.s (omega arith) l.loop-i.invariant.1),
+      e ∙ ap step l.loop-i.invariant.1 ∙ sym (after_next l.loop-i.i s.args.state),
+    )
+
+pub shape_of-row : goal.shape_of-row
+shape_of-row c = c.loop-i.invariant.0.1
+
+pub returns : goal.returns
+returns c =
+    let l = c in
+    let s = l in
+    l.loop-i.invariant.0.2 ∙ walked_end _ _ l.loop-i.i (length_drawn stream_byte (length s.args.row.now) s.args.state) (omega arith)

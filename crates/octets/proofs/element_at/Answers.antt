@@ -1,0 +1,22 @@
+-- `octets::element_at` meets its contract. Assumes nothing.
+use mathlib.Core.Path.{◌≡◌, ap, ◌∙◌}
+use Prim.Native.Nat.{ℕ, ◌+◌, ◌-◌}
+use native.Mathlib.Omega.{arith}
+use lib.ListN.{take, drop}
+use Rattle.octets.specs.Octets.{from_bytes}
+use Rattle.octets.proofs.Pasted.{part_long}
+use borrow.Author.Rules.{rules}
+use Rattle.octets.proofs.element_at.Goals as goal
+
+eight : (at : ℕ) → at + 8 - at ≡ 8
+eight at = omega arith
+
+pub number8-requires : goal.number8-requires
+number8-requires c =
+    let s = c in
+    part_long s.args.bytes.now s.args.at 8 s.requires
+
+pub returns : goal.returns
+returns c =
+    let s = c in
+    c.number8.ensures ∙ ap (λ (n : ℕ). from_bytes (take n (drop s.args.at s.args.bytes.now))) (eight s.args.at)

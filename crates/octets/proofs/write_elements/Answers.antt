@@ -1,0 +1,32 @@
+-- `octets::write_elements` meets its contract. Assumes nothing.
+use mathlib.Core.Path.{◌≡◌, refl}
+use Prim.Native.Nat.{◌-◌, ◌*◌, ◌≤◌}
+use native.Mathlib.Omega.{arith}
+use lib.ListN.{length, take}
+use Rattle.octets.specs.Octets.{element_bytes, filled}
+use Rattle.octets.proofs.Pasted.{part_long, elements_start, elements_written, elements_end}
+use borrow.Author.Rules.{rules}
+use Rattle.octets.proofs.write_elements.Goals as goal
+
+pub loop-i-init : goal.loop-i-init
+loop-i-init c = (search rules, refl, elements_start c.args.elements.now c.args.row.now)
+
+pub write_element-requires : goal.write_element-requires
+write_element-requires c =
+    let l = c in
+    part_long l.loop-i.row (8 * l.loop-i.i) 8 (omega arith)
+
+pub loop-i-preserved : goal.loop-i-preserved
+loop-i-preserved c =
+    let l = c in
+    let s = l in
+    (omega arith, search rules, elements_written s.args.elements.now s.args.row.now l.loop-i.row _ l.loop-i.i (omega arith) s.requires l.loop-i.invariant.2 c.write_element.ensures)
+
+pub shape_of-row : goal.shape_of-row
+shape_of-row c = c.loop-i.invariant.1
+
+pub returns : goal.returns
+returns c =
+    let l = c in
+    let s = l in
+    elements_end s.args.elements.now s.args.row.now l.loop-i.row l.loop-i.i s.requires (omega arith) l.loop-i.invariant.2

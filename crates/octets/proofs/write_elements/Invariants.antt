@@ -1,0 +1,15 @@
+-- `octets::write_elements` meets its contract. Assumes nothing.
+use mathlib.Core.Path.{◌≡◌, refl}
+use Prim.Native.Nat.{◌-◌, ◌*◌, ◌≤◌}
+use native.Mathlib.Omega.{arith}
+use lib.ListN.{length, take}
+use Rattle.octets.specs.Octets.{element_bytes, filled}
+use Rattle.octets.proofs.Pasted.{part_long, elements_start, elements_written, elements_end}
+use borrow.Author.Rules.{rules}
+use Rattle.octets.proofs.write_elements.Given as goal
+
+abbrev pub invariant-loop-i : goal.invariant-loop-i
+invariant-loop-i l = (l.i ≤ length l.elements) × (length l.row ≡ length l.initial.row) × (l.row ≡ filled (element_bytes (take l.i l.elements)) l.initial.row)
+
+abbrev pub decreases-loop-i : goal.decreases-loop-i
+decreases-loop-i l = length l.elements - l.i

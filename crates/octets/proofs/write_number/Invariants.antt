@@ -1,0 +1,23 @@
+-- `octets::write_number` meets its contract. Assumes nothing.
+use mathlib.Core.Path.{◌≡◌, refl, sym, ap, ◌∙◌}
+use mathlib.Core.List.{List}
+use Prim.Native.Nat.{ℕ, ◌+◌, ◌-◌, ◌/◌, ◌%◌, ◌^◌, ◌≤◌, ◌<◌}
+use native.Mathlib.Nat.{div-one, div-div-eq-div-mul, pow-suc}
+use native.Mathlib.Numerals.{add-one}
+use native.Mathlib.Omega.{arith}
+use lib.ListN.{length, set, length-set}
+use Rattle.rows.proofs.Walk.{walked, walked_next, walked_end}
+use Rattle.octets.specs.Octets.{to_bytes}
+use Rattle.octets.proofs.Bytes.{length_to_bytes, to_bytes_at}
+use borrow.Author.Rules.{rules}
+use Rattle.octets.proofs.write_number.Given as goal
+
+-- the invariant: the row has the bytes up to i, and is as it was from there; `rest` has the others
+abbrev pub Inv : (v : ℕ) (d a : List ℕ) (rest i : ℕ) → Type 0
+Inv v d a rest i = (i ≤ length d) × (length a ≡ length d) × (a ≡ walked (to_bytes (length d) v) d i) × (rest ≡ v / 256 ^ i)
+
+abbrev pub invariant-loop-i : goal.invariant-loop-i
+invariant-loop-i l = Inv l.x l.initial.row l.row l.rest l.i
+
+abbrev pub decreases-loop-i : goal.decreases-loop-i
+decreases-loop-i l = length l.initial.row - l.i

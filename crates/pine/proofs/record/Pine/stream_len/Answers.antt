@@ -1,0 +1,21 @@
+-- `pine::record::Pine::stream_len` meets its contract. Assumes nothing.
+use mathlib.Core.Path.{ap}
+use Prim.Native.Nat.{ℕ, ◌*◌, ◌≤◌}
+use native.Mathlib.Nat.{mul-le-mul, lt_of_le_of_lt}
+use native.Mathlib.Omega.{arith}
+use lib.Dec.{lit<}
+use Rattle.pine.proofs.Sizes.{small}
+use Rattle.pine.proofs.record.Pine.stream_len.Goals as goal
+
+pub chunk_count-requires : goal.chunk_count-requires
+chunk_count-requires c = (omega arith, (omega arith, omega (arith, small c.args.self c.requires)))
+
+pub overflow_mul-result : goal.overflow_mul-result
+overflow_mul-result c =
+    let s = c in
+    let k = small s.args.self s.requires in
+    let h : c.chunk_count.result ≤ 65536 = omega (arith, c.chunk_count.ensures, k.dimension) in
+    record { fits = lt_of_le_of_lt (mul-le-mul k.tests h) (lit< tt) }
+
+pub returns : goal.returns
+returns c = ap (λ (n : ℕ). c.args.self.num_wr_tests * n) c.chunk_count.ensures

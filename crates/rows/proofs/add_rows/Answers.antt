@@ -1,0 +1,29 @@
+-- `rows::add_rows` meets its contract. Assumes nothing.
+use Rattle.std.proofs.Common.{◌-◌, length, refl, arith, rules}
+use Rattle.field64.specs.Field.{p64, add_mod}
+use Rattle.rows.proofs.Joining.{Joining, reads_below, joining_next, joined_end}
+use Rattle.rows.proofs.add_rows.Goals as goal
+
+pub loop-i-init : goal.loop-i-init
+loop-i-init c = (search rules, refl, refl)
+
+pub add_by_bits-requires : goal.add_by_bits-requires
+add_by_bits-requires c =
+    let l = c in
+    let s = l in
+    reads_below (add_mod p64) s.args.agg.now s.args.share.now l.loop-i.agg l.loop-i.i s.requires.0 l.loop-i.invariant p64 s.requires.1 (omega arith)
+
+pub loop-i-preserved : goal.loop-i-preserved
+loop-i-preserved c =
+    let l = c in
+    let s = l in
+    joining_next (add_mod p64) s.args.agg.now s.args.share.now l.loop-i.agg l.loop-i.i s.requires.0 l.loop-i.invariant (omega arith) c.add_by_bits.result c.add_by_bits.ensures
+
+pub shape_of-agg : goal.shape_of-agg
+shape_of-agg c = c.loop-i.invariant.1
+
+pub returns : goal.returns
+returns c =
+    let l = c in
+    let s = l in
+    joined_end (add_mod p64) s.args.agg.now s.args.share.now l.loop-i.agg l.loop-i.i s.requires.0 l.loop-i.invariant (omega arith)

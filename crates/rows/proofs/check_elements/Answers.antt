@@ -1,0 +1,9 @@
+-- `rows::check_elements` meets its contract. Assumes nothing.
+use Rattle.std.proofs.Common.{rules, le-ltb, lt-ltb}
+use Rattle.rows.proofs.check_elements.Goals as goal
+
+pub returns-then-bad-row : goal.returns-then-bad-row
+returns-then-bad-row c = simp (← c.first_bad-bad.ensures, lt-ltb _ _ c.if-bad-row.true)
+
+pub returns-else-bad-row : goal.returns-else-bad-row
+returns-else-bad-row c = simp (c.accepted.ensures, ← c.first_bad-bad.ensures, le-ltb _ _ c.if-bad-row.false)

@@ -1,0 +1,12 @@
+-- `rows::scan::has_bad` meets its contract. Assumes nothing.
+use Rattle.std.proofs.Common.{◌-◌, ◌≤◌, length, refl, true≢false, arith, rules}
+use Rattle.field64.specs.Field.{p64}
+use Rattle.rows.proofs.Elements.{below_at}
+use Rattle.rows.proofs.Blocks.{Seen, seen_none, seen_next, seen_all}
+use Rattle.rows.proofs.scan.has_bad.Given as goal
+
+abbrev pub invariant-loop-i : goal.invariant-loop-i
+invariant-loop-i l = (l.i ≤ length l.part) × Seen p64 l.part l.i 0
+
+abbrev pub decreases-loop-i : goal.decreases-loop-i
+decreases-loop-i l = length l.part - l.i

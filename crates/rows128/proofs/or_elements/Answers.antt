@@ -1,0 +1,19 @@
+-- `rows128::or_elements` meets its contract. Assumes nothing.
+use Rattle.std.proofs.Common.{ℕ, sym, ap, ◌∙◌, rules}
+use Rattle.rules.proofs.Chain.{first_refused}
+use Rattle.rows.specs.Rows.{elements_from}
+use Rattle.rows.proofs.Elements.{elements_after}
+use Rattle.field128.specs.Field128.{p128, elements_of}
+use Rattle.field128.proofs.Pairs.{elements_length}
+use Rattle.rows128.proofs.or_elements.Goals as goal
+
+pub returns-then-so_far-ne0 : goal.returns-then-so_far-ne0
+returns-then-so_far-ne0 c = sym (first_refused _ _ c.if-so_far-ne0.true)
+
+pub returns : goal.returns
+returns c =
+    let b = c in
+    let s = b in
+    let left = elements_of s.args.left.now in
+    let right = elements_of s.args.right.now in
+    elements_after p128 left right s.args.so_far _ _ _ b.if-so_far-ne0.false b.check_elements-in_left.ensures (c.check_elements-in_right.ensures ∙ ap (λ (k : ℕ). elements_from p128 k right) (sym (elements_length s.args.left.now))) c.or.ensures

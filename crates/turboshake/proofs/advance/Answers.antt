@@ -1,0 +1,20 @@
+-- `turboshake::advance` meets its contract. Assumes nothing.
+use mathlib.Core.Path.{sym, ap, ◌∙◌}
+use mathlib.Core.List.{List}
+use Prim.Native.Nat.{ℕ, ◌+◌, ◌<◌}
+use native.Mathlib.Omega.{arith}
+use borrow.Author.Rules.{rules}
+use Rattle.turboshake.specs.Stream.{sponge}
+use Rattle.turboshake.proofs.Moved.{moved_full, moved_part}
+use Rattle.turboshake.proofs.advance.Goals as goal
+
+pub returns-then-next-eq-RATE : goal.returns-then-next-eq-RATE
+returns-then-next-eq-RATE c =
+    let s = c in
+    (ap (λ (ws : List ℕ). sponge ws 0) c.permute.ensures ∙ sym (moved_full s.args.n s.args.at s.args.lanes.now (omega arith)), omega arith)
+
+pub returns : goal.returns
+returns c =
+    let s = c in
+    let part : s.args.at + s.args.n < 168 = omega arith in
+    (sym (moved_part s.args.n s.args.at s.args.lanes.now part), part)

@@ -1,0 +1,17 @@
+-- `xof::init` meets its contract. Assumes nothing.
+use mathlib.Core.Path.{ap₂, ◌∙◌}
+use mathlib.Core.List.{◌∷◌}
+use Rattle.turboshake.specs.Stream.{absorb_all}
+use Rattle.xof.specs.Xof.{algorithm_id, dst}
+use Rattle.xof.proofs.Frame.{parts_absorbed}
+use borrow.Author.Rules.{rules}
+use Rattle.xof.proofs.init.Goals as goal
+
+pub returns : goal.returns
+returns c =
+    let a = c in
+    let n = a in
+    let s = n in (
+      parts_absorbed (7 ∷ dst algorithm_id s.args.usage) s.args.seed a.absorb.result _ (a.absorb.ensures.0 ∙ ap₂ absorb_all n.tag-tag.ensures n.new.ensures.0) c.absorb-2.ensures.0,
+      c.absorb-2.ensures.1,
+    )
