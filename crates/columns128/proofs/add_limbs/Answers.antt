@@ -1,0 +1,60 @@
+-- `columns128::add_limbs` meets its contract, by either form. Assumes nothing.
+use mathlib.Core.Path.{sym}
+use borrow.Author.Rules.{rules}
+use lib.ListN.{length}
+use Rattle.field128.specs.Field128.{elements_of}
+use Rattle.limbs.specs.Limbs.{limbs}
+use Rattle.columns128.proofs.Sums.{few_modulus, many_modulus, below_by, added_by, weights_fit, tables_fit}
+use Rattle.columns128.proofs.add_limbs.Goals as goal
+
+pub add_reduced-requires : goal.add_reduced-requires
+add_reduced-requires c =
+    let i = c in
+    let s = c in
+    let T = length s.args.low.now in
+    let m = few_modulus T i.if-low-le-FEW.true in
+    let fit = weights_fit T s.args.n _ i.if-low-le-FEW.true s.requires.per_in_bounds.1.1 s.requires.part_len_bound.1 in
+    let below = s.requires.below in
+    record {
+      per_in_bounds = (s.requires.per_in_bounds.0, (s.requires.per_in_bounds.1.0, fit.0));
+      row_len = s.requires.row_len;
+      part_len_bound = (s.requires.part_len_bound.0, fit.1);
+      middle_len = s.requires.middle_len;
+      below = (below_by _ _ s.args.low.now m below.0, (below_by _ _ s.args.middle.now m below.1.0, below_by _ _ s.args.high.now m below.1.1));
+    }
+
+pub returns-then-low-le-FEW : goal.returns-then-low-le-FEW
+returns-then-low-le-FEW c =
+    let a = c.add_reduced in
+    let i = c in
+    let s = c in
+    let xs = elements_of s.args.part.now in
+    let m = sym (few_modulus (length s.args.low.now) i.if-low-le-FEW.true) in
+    record {
+      low_after = added_by _ _ s.args.per s.args.j s.args.n (limbs 0 xs) s.args.stream.now s.args.low.now _ m a.ensures.low_after;
+      middle_after = added_by _ _ s.args.per s.args.j s.args.n (limbs 1 xs) s.args.stream.now s.args.middle.now _ m a.ensures.middle_after;
+      high_after = added_by _ _ s.args.per s.args.j s.args.n (limbs 2 xs) s.args.stream.now s.args.high.now _ m a.ensures.high_after;
+    }
+
+pub add_tabled-requires : goal.add_tabled-requires
+add_tabled-requires c =
+    let i = c in
+    let s = c in
+    record {
+      per_in_bounds = (s.requires.per_in_bounds.0, (s.requires.per_in_bounds.1.0, tables_fit (length s.args.low.now) s.args.n _ i.if-low-le-FEW.false s.requires.per_in_bounds.1.1 s.requires.part_len_bound.1));
+      row_len = s.requires.row_len;
+      middle_len = s.requires.middle_len;
+    }
+
+pub returns : goal.returns
+returns c =
+    let a = c.add_tabled in
+    let i = c in
+    let s = c in
+    let xs = elements_of s.args.part.now in
+    let m = sym (many_modulus (length s.args.low.now) i.if-low-le-FEW.false) in
+    record {
+      low_after = added_by _ _ s.args.per s.args.j s.args.n (limbs 0 xs) s.args.stream.now s.args.low.now _ m a.ensures.low_after;
+      middle_after = added_by _ _ s.args.per s.args.j s.args.n (limbs 1 xs) s.args.stream.now s.args.middle.now _ m a.ensures.middle_after;
+      high_after = added_by _ _ s.args.per s.args.j s.args.n (limbs 2 xs) s.args.stream.now s.args.high.now _ m a.ensures.high_after;
+    }

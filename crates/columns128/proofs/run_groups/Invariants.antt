@@ -1,0 +1,22 @@
+-- `columns128::run_groups` meets its contract: after the bytes before j, each sum is over the first 4j coordinates. Assumes nothing.
+use mathlib.Core.Path.{◌≡◌, refl, sym, ap, ◌∙◌}
+use Prim.Native.Nat.{ℕ, ◌-◌, ◌*◌, ◌≤◌, ◌<◌}
+use native.Mathlib.Omega.{arith}
+use borrow.Author.Rules.{rules}
+use lib.Seq.{length_front}
+use lib.ListN.{length, take, drop}
+use Rattle.field128.specs.Field128.{elements_of}
+use Rattle.field128.proofs.Pairs.{elements_length}
+use Rattle.groups.specs.Groups.{group_from}
+use Rattle.groups.proofs.Swapped.{Fits, group_fits, row_long, same_room}
+use Rattle.limbs.specs.Limbs.{limbs, modulus_for}
+use Rattle.limbs.proofs.Words.{length_limbs}
+use Rattle.limbs.proofs.Summed.{Summed, summed_start, summed_below, summed_next, summed_end}
+use Rattle.columns128.proofs.Sums.{part_long, words_inside, part_limbs, positive, below_by, added_by, tests_by, width_most, fits_by}
+use Rattle.columns128.proofs.run_groups.Given as goal
+
+abbrev pub invariant-loop-j : goal.invariant-loop-j
+invariant-loop-j l = (l.j ≤ l.per) × ((length l.row ≡ length l.initial.row) × (length l.spare ≡ length l.initial.spare)) × (Summed (modulus_for (length l.initial.low)) l.per l.stream (limbs 0 (elements_of l.gradient)) (length l.initial.low) l.j l.low × (Summed (modulus_for (length l.initial.low)) l.per l.stream (limbs 1 (elements_of l.gradient)) (length l.initial.low) l.j l.middle × Summed (modulus_for (length l.initial.low)) l.per l.stream (limbs 2 (elements_of l.gradient)) (length l.initial.low) l.j l.high))
+
+abbrev pub decreases-loop-j : goal.decreases-loop-j
+decreases-loop-j l = l.per - l.j

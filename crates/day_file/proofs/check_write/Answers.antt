@@ -1,0 +1,32 @@
+-- `day_file::check_write` meets its contract. Assumes nothing.
+use mathlib.Core.Path.{refl, sym, ap, ◌∙◌}
+use Prim.Native.Nat.{◌*◌}
+use lib.ListN.{length}
+use Rattle.rows.proofs.Lengths.{row_right}
+use Rattle.rules.proofs.Chain.{both}
+use Rattle.day_file.proofs.Verdicts.{number, dimension_limits, write_inputs, write_lens, write_rows}
+use borrow.Author.Rules.{rules}
+use Rattle.day_file.proofs.check_write.Goals as goal
+
+pub returns-then-inputs-ne0 : goal.returns-then-inputs-ne0
+returns-then-inputs-ne0 c =
+    let s = c in
+    write_inputs s.args.param s.args.count s.args.contents.now s.args.bodies.now s.args.file _ c.check_param-inputs.ensures c.if-inputs-ne0.true
+
+pub check_write_lens-lens-requires : goal.check_write_lens-lens-requires
+check_write_lens-lens-requires c = dimension_limits c.args.param _ c.check_param-inputs.ensures c.if-inputs-ne0.false
+
+pub returns-then-lens-ne0 : goal.returns-then-lens-ne0
+returns-then-lens-ne0 c =
+    let s = c in
+    write_lens s.args.param s.args.count s.args.contents.now s.args.bodies.now s.args.file _ c.check_param-inputs.ensures c.if-inputs-ne0.false _ _ _ _ refl refl refl c.check_write_lens-lens.ensures c.if-lens-ne0.true
+
+pub check_rows-requires : goal.check_rows-requires
+check_rows-requires c =
+    let s = c in
+    row_right 1 (length s.args.contents.now) (12 * s.args.count) (both _ _ (ap number (sym c.check_write_lens-lens.ensures) ∙ c.if-lens-ne0.false)).0
+
+pub returns : goal.returns
+returns c =
+    let s = c in
+    write_rows s.args.param s.args.count s.args.contents.now s.args.bodies.now s.args.file _ c.check_param-inputs.ensures c.if-inputs-ne0.false _ _ _ _ refl refl refl c.check_write_lens-lens.ensures c.if-lens-ne0.false _ c.check_rows.ensures

@@ -1,0 +1,21 @@
+-- `day_file::is_rows` meets its contract. Assumes nothing.
+use Rattle.field64.specs.Field.{p64}
+use Rattle.layout.proofs.Tests.{rows_many, rows_rise, rows_fall, none_carries}
+use borrow.Author.Rules.{rules}
+use Rattle.day_file.proofs.is_rows.Goals as goal
+
+pub returns-then-count-gt1024 : goal.returns-then-count-gt1024
+returns-then-count-gt1024 c =
+    let s = c in
+    rows_many p64 s.args.count s.args.contents.now s.args.bodies.now c.if-count-gt1024.true
+
+pub returns-then-rise : goal.returns-then-rise
+returns-then-rise c =
+    let s = c in
+    let e = c.carries.ensures in
+    rows_rise p64 s.args.count s.args.contents.now s.args.bodies.now c.if-count-gt1024.false _ c.keys_rise-rise.ensures c.if-rise.true _ (none_carries _ s.args.bodies.now e.below e.upper_bound)
+
+pub returns : goal.returns
+returns c =
+    let s = c in
+    rows_fall p64 s.args.count s.args.contents.now s.args.bodies.now c.if-count-gt1024.false _ c.keys_rise-rise.ensures c.if-rise.false

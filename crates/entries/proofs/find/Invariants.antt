@@ -1,0 +1,15 @@
+-- `entries::find` meets its contract. Assumes nothing.
+use mathlib.Core.Path.{sym, ◌∙◌}
+use Prim.Native.Nat.{◌+◌, ◌-◌, ◌/◌, ◌≤◌}
+use native.Mathlib.Omega.{arith}
+use Rattle.entries.specs.File.{keys_in}
+use Rattle.entries.proofs.Rows.{length-keys_in, keys_in_at}
+use Rattle.entries.proofs.Searching.{Between, between_start, between_up, between_down, between_end}
+use borrow.Author.Rules.{rules}
+use Rattle.entries.proofs.find.Given as goal
+
+abbrev pub invariant-loop-low : goal.invariant-loop-low
+invariant-loop-low l = (l.high ≤ l.count) × Between l.key (keys_in l.count l.contents) l.low l.high
+
+abbrev pub decreases-loop-low : goal.decreases-loop-low
+decreases-loop-low l = l.high - l.low

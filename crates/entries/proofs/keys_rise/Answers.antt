@@ -1,0 +1,46 @@
+-- `entries::keys_rise` meets its contract. Assumes nothing.
+use mathlib.Core.Path.{◌≡◌, sym, ◌∙◌}
+use Prim.Native.Nat.{◌-◌, ◌≤◌}
+use native.Mathlib.Omega.{arith}
+use lib.ListN.{drop}
+use Rattle.entries.specs.File.{keys_in, rising, rising_after}
+use Rattle.entries.proofs.Rows.{length-keys_in, keys_in_at}
+use Rattle.entries.proofs.Searching.{rise_start, rise_next, rise_stops, rise_end, rise_none}
+use borrow.Author.Rules.{rules}
+use Rattle.entries.proofs.keys_rise.Goals as goal
+
+pub returns-then-count-eq0 : goal.returns-then-count-eq0
+returns-then-count-eq0 c =
+    let s = c in
+    rise_none (keys_in s.args.count s.args.contents.now) (length-keys_in s.args.count s.args.contents.now ∙ c.if-count-eq0.true)
+
+pub loop-i-init : goal.loop-i-init
+loop-i-init c =
+    let s = c in
+    let n = s.args.count in
+    let k = s.args.contents.now in
+    (omega arith, rise_start (keys_in n k) _ (omega (arith, length-keys_in n k)) (c.key_at-last.ensures ∙ sym (keys_in_at n k 0 (omega arith))))
+
+pub returns-then-key-last : goal.returns-then-key-last
+returns-then-key-last c =
+    let l = c in
+    let s = l in
+    let n = s.args.count in
+    let k = s.args.contents.now in
+    rise_stops (keys_in n k) l.loop-i.i l.loop-i.last _ (omega (arith, length-keys_in n k)) (c.key_at-key.ensures ∙ sym (keys_in_at n k l.loop-i.i (omega arith))) c.if-key-last.true l.loop-i.invariant.1
+
+pub loop-i-preserved : goal.loop-i-preserved
+loop-i-preserved c =
+    let l = c in
+    let s = l in
+    let n = s.args.count in
+    let k = s.args.contents.now in
+    (omega arith, rise_next (keys_in n k) l.loop-i.i l.loop-i.last _ (omega (arith, length-keys_in n k)) (c.key_at-key.ensures ∙ sym (keys_in_at n k l.loop-i.i (omega arith))) c.if-key-last.false l.loop-i.invariant.1)
+
+pub returns : goal.returns
+returns c =
+    let l = c in
+    let s = l in
+    let n = s.args.count in
+    let k = s.args.contents.now in
+    rise_end (keys_in n k) l.loop-i.i l.loop-i.last (omega (arith, length-keys_in n k)) l.loop-i.invariant.1

@@ -1,0 +1,38 @@
+-- `file_add::put_bodies` meets its contract. Assumes nothing.
+use mathlib.Core.Path.{sym, ap, ◌∙◌}
+use mathlib.Core.List.{List}
+use Prim.Native.Nat.{ℕ, ◌+◌, ◌-◌}
+use native.Mathlib.Omega.{arith}
+use lib.ListN.{length, take, drop}
+use Rattle.rows.proofs.Blocks.{rest_is}
+use Rattle.octets.specs.Octets.{element_bytes, pasted}
+use Rattle.file_add.specs.Steps.{body_with}
+use Rattle.file_add.proofs.Written.{three_pasted, front_is, body_long}
+use borrow.Author.Rules.{rules}
+use Rattle.file_add.proofs.put_bodies.Goals as goal
+
+pub put_body-rest_at-requires : goal.put_body-rest_at-requires
+put_body-rest_at-requires c =
+    record {
+      share_in_bounds = (omega arith, c.requires.to_in_bounds.1);
+      len = c.requires.bodies_len;
+    }
+
+pub returns : goal.returns
+returns c =
+    let s = c in
+    let t = s.args.bodies.now in
+    let h = s.args.share.now in
+    let o = take (s.args.to - s.args.from) (drop s.args.from t) in
+    let a = c.put_bytes-body_at.ensures in
+    let b = c.put_body-rest_at.ensures in
+    let d = c.put_bytes.ensures in
+    let f = front_is s.args.from t in
+    let g = rest_is t s.args.to in
+    three_pasted s.args.at s.args.row.now (omega (arith, s.requires.from_le_to, s.requires.to_in_bounds, s.requires.bodies_len)) (take s.args.from t) (element_bytes (body_with o h)) (drop s.args.to t) _ _ _ _ _ _
+    (a.0 ∙ ap (λ (l : List ℕ). pasted s.args.at l s.args.row.now) f)
+    (a.1 ∙ ap (λ (l : List ℕ). s.args.at + length l) f)
+    b.0
+    (b.1 ∙ ap (λ (k : ℕ). c.put_bytes-body_at.result + k) (sym (body_long o h)))
+    (d.0 ∙ ap (λ (l : List ℕ). pasted c.put_body-rest_at.result l c.put_body-rest_at.new.row) g)
+    (d.1 ∙ ap (λ (l : List ℕ). c.put_body-rest_at.result + length l) g)

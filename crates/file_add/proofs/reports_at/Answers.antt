@@ -1,0 +1,9 @@
+-- `file_add::reports_at` meets its contract. Assumes nothing.
+use Rattle.file_add.proofs.Places.{reports_four}
+use borrow.Author.Rules.{rules}
+use Rattle.file_add.proofs.reports_at.Goals as goal
+
+pub returns : goal.returns
+returns c =
+    let s = c in
+    (reports_four s.args.contents.now s.args.i _ s.requires c.number4.ensures.0, c.number4.ensures.1)

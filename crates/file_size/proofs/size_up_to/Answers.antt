@@ -1,0 +1,25 @@
+-- `file_size::size_up_to` meets its contract. Assumes nothing.
+use native.Mathlib.Omega.{arith}
+use Rattle.file_size.proofs.Sizes.{size_refused, size_dimension, size_stops, size_done}
+use borrow.Author.Rules.{rules}
+use Rattle.file_size.proofs.size_up_to.Goals as goal
+
+pub returns-then-inputs-ne0 : goal.returns-then-inputs-ne0
+returns-then-inputs-ne0 c =
+    let s = c in
+    size_refused s.args.most s.args.param s.args.keys.now _ c.check_list-inputs.ensures c.if-inputs-ne0.true
+
+pub returns-then-answer-ne0 : goal.returns-then-answer-ne0
+returns-then-answer-ne0 c =
+    let s = c in
+    size_stops s.args.most s.args.param s.args.keys.now _ c.check_list-inputs.ensures c.if-inputs-ne0.false _ _ c.count_keys-counted.ensures.0 c.if-answer-ne0.true
+
+pub file_len-requires : goal.file_len-requires
+file_len-requires c =
+    let s = c in
+    (size_dimension s.args.most s.args.param s.args.keys.now _ c.check_list-inputs.ensures c.if-inputs-ne0.false _ _ c.count_keys-counted.ensures.0, omega (arith, c.count_keys-counted.ensures.1))
+
+pub returns : goal.returns
+returns c =
+    let s = c in
+    size_done s.args.most s.args.param s.args.keys.now _ c.check_list-inputs.ensures c.if-inputs-ne0.false _ _ c.count_keys-counted.ensures.0 c.if-answer-ne0.false _ c.file_len.ensures

@@ -1,0 +1,12 @@
+-- `gradient_rules::check_every` meets its contract. Assumes nothing.
+use mathlib.Core.Path.{sym, ◌∙◌}
+use borrow.Author.Rules.{rules}
+use Rattle.field64.specs.Field.{p64}
+use Rattle.gradient_rules.proofs.Searches.{every_counted}
+use Rattle.gradient_rules.proofs.check_every.Goals as goal
+
+pub returns-then-count_in_range-results : goal.returns-then-count_in_range-results
+returns-then-count_in_range-results c =
+    let n = c in
+    let s = n in
+    c.accepted.ensures ∙ every_counted p64 s.args.bound 0 s.args.results.now (sym n.count_in_range.ensures ∙ c.if-count_in_range-results.true)

@@ -1,0 +1,19 @@
+-- `gradient_rules::check_results` meets its contract. Assumes nothing.
+use mathlib.Core.Path.{sym, ap, ◌∙◌}
+use borrow.Author.Rules.{rules}
+use Rattle.field64.specs.Field.{p64}
+use Rattle.pine.specs.declared.WrTestRule.{WrTestRule}
+use Rattle.flp.specs.Encode.{range_rule}
+use Rattle.gradient_rules.proofs.check_results.Goals as goal
+
+pub returns-in-Every : goal.returns-in-Every
+unfolding range_rule
+returns-in-Every c =
+    let s = c in
+    c.check_every.ensures ∙ sym (ap (λ (r : WrTestRule). range_rule r p64 s.args.bound s.args.successes s.args.results.now) c.in-Every.is)
+
+pub returns-in-Enough : goal.returns-in-Enough
+unfolding range_rule
+returns-in-Enough c =
+    let s = c in
+    c.check_enough.ensures ∙ sym (ap (λ (r : WrTestRule). range_rule r p64 s.args.bound s.args.successes s.args.results.now) c.in-Enough.is)

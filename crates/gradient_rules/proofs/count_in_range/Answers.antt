@@ -1,0 +1,31 @@
+-- `gradient_rules::count_in_range` meets its contract. The invariant: those counted, and those in the rest. Assumes nothing.
+use mathlib.Core.Path.{◌≡◌}
+use Prim.Native.Nat.{◌+◌, ◌-◌, ◌≤◌}
+use native.Mathlib.Omega.{arith}
+use borrow.Author.Rules.{rules}
+use lib.ListN.{length, drop}
+use Rattle.field64.specs.Field.{p64}
+use Rattle.flp.specs.Encode.{count_in_range}
+use Rattle.gradient_rules.proofs.Searches.{one_at_most, count_next, count_end}
+use Rattle.gradient_rules.proofs.count_in_range.Goals as goal
+
+pub loop-t-init : goal.loop-t-init
+loop-t-init c = (search rules, search rules, omega arith)
+
+pub in_range-requires : goal.in_range-requires
+in_range-requires c = c.requires
+
+pub overflow_add-count : goal.overflow_add-count
+overflow_add-count c = omega (arith, one_at_most c.in_range.result)
+
+pub loop-t-preserved : goal.loop-t-preserved
+loop-t-preserved c =
+    let l = c in
+    let s = l in
+    (omega arith, omega (arith, one_at_most c.in_range.result), count_next p64 s.args.bound s.args.results.now l.loop-t.t l.loop-t.count l.loop-t.invariant.2 (omega arith) c.in_range.result c.in_range.ensures)
+
+pub returns : goal.returns
+returns c =
+    let l = c in
+    let s = l in
+    count_end p64 s.args.bound s.args.results.now l.loop-t.t l.loop-t.count l.loop-t.invariant.2 (omega arith)

@@ -1,0 +1,66 @@
+-- `layout::both_below` meets its contract. Assumes nothing.
+use mathlib.Core.Path.{◌≡◌, sym, ◌∙◌}
+use mathlib.Core.List.{List}
+use Prim.Native.Nat.{ℕ, ◌+◌, ◌-◌, ◌*◌, ◌≤◌, ◌<◌}
+use native.Mathlib.Omega.{arith}
+use lib.ListN.{take, drop, get_or}
+use Rattle.field64.specs.Field.{p64}
+use Rattle.rows.proofs.Blocks.{Seen, seen_none, seen_next, seen_all}
+use Rattle.octets.specs.Octets.{from_bytes, elements_in}
+use Rattle.octets.proofs.Bytes.{length-elements_in, elements_in_at}
+use Rattle.octets.proofs.Pasted.{part_long}
+use Rattle.layout.proofs.Tests.{both_carry, left_carries}
+use borrow.Author.Rules.{rules}
+use Rattle.layout.proofs.both_below.Goals as goal
+
+here : (n : ℕ) (bs : List ℕ) (i r : ℕ) → i < n → r ≡ from_bytes (take (8 * i + 8 - 8 * i) (drop (8 * i) bs)) → r ≡ get_or (elements_in n bs) i 0
+here n bs i r h e =
+    let k : 8 * i + 8 - 8 * i ≡ 8 = omega arith in
+    e ∙ rw k (sym (elements_in_at n bs i h))
+
+pub loop-i-init : goal.loop-i-init
+loop-i-init c =
+    let s = c in
+    let n = s.args.count in
+    (omega arith, seen_none p64 (elements_in n s.args.left.now), seen_none p64 (elements_in n s.args.right.now))
+
+pub number8-requires : goal.number8-requires
+number8-requires c =
+    let l = c in
+    part_long l.args.left.now (8 * l.loop-i.i) 8 (omega arith)
+
+pub number8-requires-in-loop-i : goal.number8-requires-in-loop-i
+number8-requires-in-loop-i c =
+    let l = c in
+    part_long l.args.right.now (8 * l.loop-i.i) 8 (omega arith)
+
+pub loop-i-preserved : goal.loop-i-preserved
+loop-i-preserved c =
+    let l = c in
+    let s = l in
+    let n = s.args.count in
+    let xs = s.args.left.now in
+    let ys = s.args.right.now in
+    let e = c.or_carry-in_left.ensures in
+    let f = c.or_carry-in_right.ensures in (
+      omega arith,
+      seen_next p64 (elements_in n xs) l.loop-i.i l.loop-i.in_left _ _ (omega (arith, length-elements_in n xs)) (here n xs l.loop-i.i _ (omega arith) c.number8.ensures) e.seen_bound e.upper_bound l.loop-i.invariant.1,
+      seen_next p64 (elements_in n ys) l.loop-i.i l.loop-i.in_right _ _ (omega (arith, length-elements_in n ys)) (here n ys l.loop-i.i _ (omega arith) c.number8-in-loop-i.ensures) f.seen_bound f.upper_bound l.loop-i.invariant.2,
+    )
+
+pub returns-then-in_left : goal.returns-then-in_left
+returns-then-in_left c =
+    let l = c in
+    let s = l in
+    let n = s.args.count in
+    let xs = s.args.left.now in
+    let ys = s.args.right.now in
+    both_carry l.loop-i.in_left l.loop-i.in_right (elements_in n xs) (elements_in n ys) (seen_all p64 (elements_in n xs) l.loop-i.i l.loop-i.in_left (omega (arith, length-elements_in n xs)) l.loop-i.invariant.1) (seen_all p64 (elements_in n ys) l.loop-i.i l.loop-i.in_right (omega (arith, length-elements_in n ys)) l.loop-i.invariant.2) (omega arith)
+
+pub returns : goal.returns
+returns c =
+    let l = c in
+    let s = l in
+    let n = s.args.count in
+    let xs = s.args.left.now in
+    left_carries l.loop-i.in_left l.loop-i.in_right (elements_in n xs) (elements_in n s.args.right.now) (seen_all p64 (elements_in n xs) l.loop-i.i l.loop-i.in_left (omega (arith, length-elements_in n xs)) l.loop-i.invariant.1) (omega arith)

@@ -1,0 +1,10 @@
+-- `layout::elements_below` meets its contract. Assumes nothing.
+use Rattle.field64.specs.Field.{p64}
+use Rattle.layout.proofs.Tests.{halves_in}
+use borrow.Author.Rules.{rules}
+use Rattle.layout.proofs.elements_below.Goals as goal
+
+pub returns : goal.returns
+returns c =
+    let s = c in
+    halves_in p64 s.args.count s.args.bytes.now _ c.both_below.ensures

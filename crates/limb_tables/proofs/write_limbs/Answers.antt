@@ -1,0 +1,13 @@
+-- `limb_tables::write_limbs` meets its contract. Assumes nothing.
+use Rattle.std.proofs.Common.{rules}
+use Rattle.field128.specs.Field128.{elements_of}
+use Rattle.limb_tables.proofs.Entries.{limb_tables}
+use Rattle.limb_tables.proofs.write_limbs.Goals as goal
+
+pub returns : goal.returns
+returns c =
+    let high = c.write_limb-3 in
+    let middle = c.write_limb-2 in
+    let low = c.write_limb in
+    let s = c in
+    limb_tables s.args.n (elements_of s.args.part.now) low.new.tables middle.new.tables high.new.tables s.requires.n_bound.0 low.ensures.tables middle.ensures.tables middle.ensures.by_index high.ensures.tables high.ensures.by_index

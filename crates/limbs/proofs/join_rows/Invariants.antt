@@ -1,0 +1,13 @@
+-- `limbs::join_rows` meets its contract. Assumes nothing.
+use Rattle.std.proofs.Common.{◌-◌, ◌*◌, ◌^◌, ◌<◌, length, refl, arith, rules}
+use Rattle.rows.proofs.Walk.{Walking}
+use Rattle.field128.specs.Field128.{elements_of, words_of}
+use Rattle.limbs.specs.Limbs.{modulus_of, joined_rows}
+use Rattle.limbs.proofs.Words.{rows_inside, results_below, joined_next, joined_end}
+use Rattle.limbs.proofs.join_rows.Given as goal
+
+abbrev pub invariant-loop-i : goal.invariant-loop-i
+invariant-loop-i l = Walking (words_of (joined_rows (modulus_of l.reduced) l.low l.middle l.high)) l.initial.results l.results (2 * l.i)
+
+abbrev pub decreases-loop-i : goal.decreases-loop-i
+decreases-loop-i l = length l.low - l.i

@@ -1,0 +1,7 @@
+-- `measurement::success_bit` meets its contract. Assumes nothing.
+use borrow.Author.Rules.{rules}
+use Rattle.measurement.proofs.Written.{success_as_tested}
+use Rattle.measurement.proofs.success_bit.Goals as goal
+
+pub returns : goal.returns
+returns c = success_as_tested c.args.hit c.args.left

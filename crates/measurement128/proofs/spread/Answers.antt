@@ -1,0 +1,62 @@
+-- `measurement128::spread` meets its contract. Assumes nothing.
+use mathlib.Core.Path.{◌≡◌, refl, sym, ap, subst, ◌∙◌}
+use mathlib.Core.List.{List}
+use Prim.Native.Nat.{ℕ, ◌+◌, ◌-◌, ◌*◌, ◌/◌, ◌^◌, ◌<◌}
+use native.Mathlib.Omega.{arith}
+use borrow.Author.Rules.{rules}
+use lib.ListN.{length, set}
+use Rattle.field128.specs.Field128.{Whole}
+use Rattle.field128.proofs.Pairs.{elements_length}
+use Rattle.measurement128.proofs.Spreading.{Spreading, spread_start, spread_next, spread_end}
+use Rattle.measurement128.proofs.spread.Lts as lts
+use Rattle.measurement128.proofs.spread.Reads as reads
+use Rattle.measurement128.proofs.spread.Tie as tie
+use Rattle.measurement128.proofs.spread.Goals as goal
+
+abbrev After-widened-e : Type 0
+After-widened-e = lts.After-widened tie.the-claims reads.Pre reads.Post goal.the-invariant-loop-i goal.the-decreases-loop-i
+
+halves : (d : List ℕ) → Whole d → length d ≡ 2 * (length d / 2)
+halves d w = w ∙ ap (λ (n : ℕ). 2 * n) (elements_length d)
+
+-- there is one before i, where that is above 0
+last_of : (i : ℕ) → 0 < i → i ≡ i - 1 + 1
+last_of i h = omega arith
+
+-- a word is below 2 ^ 64
+small : (c : After-widened-e) → c.widened-e.result.low < 2 ^ 64
+small c = search rules
+
+pub loop-i-init : goal.loop-i-init
+loop-i-init c = spread_start c.args.row.now (halves c.args.row.now c.requires)
+
+pub bounds-row-last : goal.bounds-row-last
+bounds-row-last c = omega (arith, c.loop-i.invariant.inside, c.loop-i.invariant.long)
+
+pub store-requires : goal.store-requires
+store-requires c =
+    let l = c in
+    omega (arith, elements_length l.loop-i.row, l.loop-i.invariant.inside, l.loop-i.invariant.long)
+
+pub loop-i-smaller : goal.loop-i-smaller
+loop-i-smaller c = omega arith
+
+pub loop-i-preserved : goal.loop-i-preserved
+loop-i-preserved c =
+    let k = c in
+    let w = k in
+    let l = w in
+    let s = l in
+    let d = s.args.row.now in
+    let t = subst (Spreading d l.loop-i.row) (last_of l.loop-i.i (omega arith)) l.loop-i.invariant in
+    subst (λ (a : List ℕ). Spreading d a (l.loop-i.i - 1)) (sym (k.store.ensures ∙ ap (λ (h : ℕ). set (set l.loop-i.row (2 * (l.loop-i.i - 1)) w.widened-e.result.low) (2 * (l.loop-i.i - 1) + 1) h) w.widened-e.ensures.1)) (spread_next d (halves d s.requires) l.loop-i.row (l.loop-i.i - 1) t w.widened-e.result.low (small w.before.before.before.before.before) w.widened-e.ensures.0)
+
+pub shape_of-row : goal.shape_of-row
+shape_of-row c = c.loop-i.invariant.long
+
+pub returns : goal.returns
+returns c =
+    let l = c in
+    let s = l in
+    let z : l.loop-i.i ≡ 0 = omega arith in
+    spread_end s.args.row.now (halves s.args.row.now s.requires) l.loop-i.row (subst (Spreading s.args.row.now l.loop-i.row) z l.loop-i.invariant)

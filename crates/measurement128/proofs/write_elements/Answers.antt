@@ -1,0 +1,66 @@
+-- `measurement128::write_elements` meets its contract. Assumes nothing.
+use mathlib.Core.Path.{◌≡◌, refl, sym, ap, subst, ◌∙◌}
+use mathlib.Core.List.{List}
+use Prim.Native.Nat.{ℕ, ◌+◌, ◌-◌, ◌*◌, ◌^◌, ◌≤◌, ◌<◌}
+use native.Mathlib.Omega.{arith}
+use borrow.Author.Rules.{rules}
+use lib.ListN.{length, get_or}
+use lib.Ieee.{Float, nan}
+use Rattle.rows.proofs.Walk.{Walking}
+use Rattle.flp.specs.Encode.{elements}
+use Rattle.flp.proofs.Gradient.{length_elements, elements_at}
+use Rattle.field128.specs.Field128.{p128, elements_of, words_of, Whole}
+use Rattle.field128.proofs.Pairs.{whole_twice}
+use Rattle.doubles128.specs.Doubles128.{floor_limit128}
+use Rattle.rows128.proofs.ByPairs.{same_elements, element_next, words_end}
+use Rattle.measurement.proofs.Usable.{usable_at}
+use Rattle.measurement128.proofs.write_elements.Goals as goal
+
+-- the row has no word left over, and as many elements as the gradient has coordinates
+fits : (f : ℕ) (g : List Float) (d : List ℕ) → length d ≡ 2 * length g → Whole d × ((length (elements_of d) ≡ length g) × (length (elements p128 f g) ≡ length (elements_of d)))
+fits f g d e =
+    let w = whole_twice d (length g) e in
+    (w.0, (w.1, length_elements p128 f g ∙ sym w.1))
+
+pub loop-k-init : goal.loop-k-init
+loop-k-init c = (omega arith, (omega arith, refl, refl))
+
+pub element_of-e-requires : goal.element_of-e-requires
+element_of-e-requires c =
+    let l = c in
+    let s = l in
+    record {
+      fact_1 = usable_at floor_limit128 s.args.frac_bits nan s.args.gradient.now s.requires.usable l.loop-k.k (omega arith);
+      fact_2 = s.requires.scale_value;
+    }
+
+pub store-requires : goal.store-requires
+store-requires c =
+    let l = c in
+    let s = l in
+    let d = s.args.row.now in
+    let w = fits s.args.frac_bits s.args.gradient.now d s.requires.row_len in
+    omega (arith, same_elements (elements p128 s.args.frac_bits s.args.gradient.now) d l.loop-k.row l.loop-k.k w.0 w.1.1 l.loop-k.invariant.1, w.1.0)
+
+pub loop-k-preserved : goal.loop-k-preserved
+loop-k-preserved c =
+    let k = c in
+    let e = k in
+    let l = e in
+    let s = l in
+    let g = s.args.gradient.now in
+    let f = s.args.frac_bits in
+    let d = s.args.row.now in
+    let w = fits f g d s.requires.row_len in
+    let is = e.element_of-e.ensures ∙ sym (elements_at p128 f nan g l.loop-k.k (omega arith)) in
+    (omega arith, subst (λ (a : List ℕ). Walking (words_of (elements p128 f g)) d a (2 * (l.loop-k.k + 1))) (sym k.store.ensures) (element_next (elements p128 f g) d l.loop-k.row l.loop-k.k w.0 w.1.1 l.loop-k.invariant.1 (omega (arith, w.1.0)) e.element_of-e.result.low e.element_of-e.result.high (search rules) is))
+
+pub shape_of-row : goal.shape_of-row
+shape_of-row c = c.loop-k.invariant.1.1
+
+pub returns : goal.returns
+returns c =
+    let l = c in
+    let s = l in
+    let w = fits s.args.frac_bits s.args.gradient.now s.args.row.now s.requires.row_len in
+    words_end (elements p128 s.args.frac_bits s.args.gradient.now) s.args.row.now l.loop-k.row l.loop-k.k w.0 w.1.1 l.loop-k.invariant.1 (omega (arith, w.1.0))

@@ -1,0 +1,16 @@
+-- `narrow::narrow_results` meets its contract. Assumes nothing.
+use Rattle.std.proofs.Common.{◌≡◌, ◌-◌, ◌<◌, map, length, get_or, sym, refl, ap, ◌∙◌, arith, length-set, rules}
+use Rattle.rows.proofs.Walk.{Walking}
+use Rattle.rows.proofs.Elements.{below_at}
+use Rattle.field128.specs.Field128.{p128, number_of, elements_of}
+use Rattle.narrow.specs.Narrow.{class_of, narrowed}
+use Rattle.narrow.proofs.Numbers.{sorted_by, narrowed_by}
+use Rattle.narrow.proofs.Each.{over_begin, over_inside, over_at, over_turn, over_length, over_end}
+use Rattle.narrow.proofs.narrow_results.Given as goal
+
+-- the invariant: the row has the results narrowed up to t, and from there where they lie
+abbrev pub invariant-loop-t : goal.invariant-loop-t
+invariant-loop-t l = (length l.row ≡ length l.initial.row) × Walking (map (narrowed l.bound) (elements_of l.results)) (map (class_of l.bound) (elements_of l.results)) l.row l.t
+
+abbrev pub decreases-loop-t : goal.decreases-loop-t
+decreases-loop-t l = length l.results - l.t

@@ -1,0 +1,45 @@
+-- `narrow::write_classes` meets its contract. Assumes nothing.
+use Rattle.std.proofs.Common.{◌≡◌, ◌-◌, ◌<◌, map, length, refl, ◌∙◌, arith, rules}
+use Rattle.rows.proofs.Elements.{below_at}
+use Rattle.rows.proofs.Walk.{walked_end, Walking}
+use Rattle.field128.specs.Field128.{p128, elements_of}
+use Rattle.narrow.specs.Narrow.{class_of}
+use Rattle.narrow.proofs.Each.{many, long, turn}
+use Rattle.narrow.proofs.write_classes.Lts as lts
+use Rattle.narrow.proofs.write_classes.Reads as reads
+use Rattle.narrow.proofs.write_classes.Tie as tie
+use Rattle.narrow.proofs.write_classes.Goals as goal
+
+abbrev In-loop-t : Type 0
+In-loop-t = lts.In-loop tie.the-claims reads.Pre reads.Post goal.the-invariant-loop-t goal.the-decreases-loop-t tie.handed_clauses
+
+-- a result stands at t
+inside : (c : In-loop-t) → c.loop-t.t < length (elements_of c.args.results.now)
+inside c = omega (arith, many (class_of c.args.bound) c.args.results.now c.args.row.now c.requires.results_len, c.loop-t.invariant.1)
+
+pub loop-t-init : goal.loop-t-init
+loop-t-init c = (search rules, refl, refl)
+
+pub element-requires : goal.element-requires
+element-requires c = inside c.before
+
+pub class_of-requires : goal.class_of-requires
+class_of-requires c =
+    let l = c in
+    let s = l in
+    (rw c.element.ensures (below_at p128 (elements_of s.args.results.now) s.requires.below.0 l.loop-t.t (inside l.before.before)), s.requires.below.1)
+
+pub loop-t-preserved : goal.loop-t-preserved
+loop-t-preserved c =
+    let l = c in
+    let s = l in
+    turn (class_of s.args.bound) s.args.results.now s.args.row.now s.requires.results_len l.loop-t.row l.loop-t.t _ _ l.loop-t.invariant (omega arith) c.element.ensures c.class_of.ensures
+
+pub shape_of-row : goal.shape_of-row
+shape_of-row c = c.loop-t.invariant.1
+
+pub returns : goal.returns
+returns c =
+    let l = c in
+    let s = l in
+    l.loop-t.invariant.2 ∙ walked_end _ _ l.loop-t.t (long (class_of s.args.bound) s.args.results.now s.args.row.now s.requires.results_len) (omega arith)

@@ -1,0 +1,41 @@
+-- `shares::cut_measurement` meets its contract. Assumes nothing.
+use borrow.Author.Rules.{rules}
+use mathlib.Core.Path.{◌≡◌, sym, ap, ◌∙◌}
+use mathlib.Core.List.{List, ◌++◌}
+use Prim.Native.Nat.{ℕ}
+use native.Mathlib.Omega.{arith}
+use lib.ListN.{length}
+use Rattle.field64.specs.Field.{p64}
+use Rattle.sampler.specs.Sampler.{sampled}
+use Rattle.shares.specs.Shares.{helper_stream}
+use Rattle.shares.proofs.Seeds.{first_drawn}
+use Rattle.shares.proofs.cut_measurement.Lts as lts
+use Rattle.shares.proofs.cut_measurement.Reads as reads
+use Rattle.shares.proofs.cut_measurement.Tie as tie
+use Rattle.shares.proofs.cut_measurement.Goals as goal
+
+abbrev After-draw_row : Type 0
+After-draw_row = lts.After-draw_row tie.the-claims reads.Pre reads.Post tie.handed_clauses
+
+-- the helper's row
+drawn_is : (c : After-draw_row) → c.draw_row.new.row ≡ sampled p64 (length c.args.helper.now) (helper_stream (length c.args.helper.now) c.args.seeds.now)
+drawn_is c =
+    let n = length c.args.helper.now in
+    first_drawn p64 n (helper_stream n c.args.seeds.now) c.requires.seeds_value c.helper_stream.result (c.helper_stream.ensures.0 n) _ _ c.draw_row.auto.row c.draw_row.ensures
+
+pub draw_row-requires : goal.draw_row-requires
+draw_row-requires c = c.helper_stream.ensures.1
+
+pub sub_rows-requires : goal.sub_rows-requires
+sub_rows-requires c =
+    let d = c.draw_row in
+    let s = c in
+    (omega (arith, d.auto.row, s.requires.below.1), (s.requires.below.0, d.ensures.below))
+
+pub returns : goal.returns
+returns c =
+    record {
+      helper_after = drawn_is c.before.before.before.before.before.before.before.before.before.before.before.before;
+      leader_after = c.sub_rows.ensures;
+      given_after = c.write_given.ensures ∙ ap (λ (v : List ℕ). c.args.wr ++ v) c.vf_seed.ensures;
+    }

@@ -1,0 +1,25 @@
+-- `vdaf::decode_sums` meets its contract. Assumes nothing.
+use mathlib.Core.Path.{◌≡◌, refl, sym, ◌∙◌}
+use mathlib.Core.List.{List}
+use Prim.Native.Nat.{ℕ, ◌+◌, ◌-◌, ◌<◌}
+use native.Mathlib.Omega.{arith}
+use borrow.Author.Rules.{rules}
+use lib.ListN.{length, get_or, set}
+use lib.Ieee.{Float}
+use Rattle.field64.specs.Field.{p64, add_mod}
+use Rattle.doubles.specs.Doubles.{plus_zero, decoded}
+use Rattle.rows.proofs.Elements.{below_at}
+use Rattle.rows.proofs.Walk.{walked_end, Walking, walking_next}
+use Rattle.vdaf.specs.Aggregates.{decoded_sums}
+use Rattle.vdaf.proofs.Decoded.{length-decoded_sums, get_or-decoded_sums}
+use Rattle.vdaf.proofs.decode_sums.Given as goal
+
+-- the invariant: the row is the decoded sums up to i, and as it was from there
+abbrev pub Inv : (f : ℕ) (l r : List ℕ) (d a : List Float) (i : ℕ) → Type 0
+Inv f l r d a i = Walking (decoded_sums p64 f l r) d a i
+
+abbrev pub invariant-loop-i : goal.invariant-loop-i
+invariant-loop-i l = Inv l.frac_bits l.left l.right l.initial.decoded l.decoded l.i
+
+abbrev pub decreases-loop-i : goal.decreases-loop-i
+decreases-loop-i l = length l.initial.decoded - l.i

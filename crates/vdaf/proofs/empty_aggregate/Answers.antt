@@ -1,0 +1,15 @@
+-- `vdaf::empty_aggregate` meets its contract. Assumes nothing.
+use mathlib.Core.Path.{refl}
+use Rattle.pine.specs.Param.{Field64}
+use Rattle.vdaf.proofs.Effects.{empty_refused, empty_done}
+use borrow.Author.Rules.{rules}
+use Rattle.vdaf.proofs.empty_aggregate.Goals as goal
+
+pub returns-then-answer-ne0 : goal.returns-then-answer-ne0
+returns-then-answer-ne0 c = empty_refused Field64 _ _ _ c.check_empty-answer.ensures c.if-answer-ne0.true
+
+pub returns : goal.returns
+returns c =
+    let z = c in
+    let b = z in
+    empty_done Field64 _ _ _ b.check_empty-answer.ensures (λ n. refl) b.if-answer-ne0.false _ z.zero_row.ensures

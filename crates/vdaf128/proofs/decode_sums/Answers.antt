@@ -1,0 +1,77 @@
+-- `vdaf128::decode_sums` meets its contract. Assumes nothing.
+use mathlib.Core.Path.{◌≡◌, refl, sym, ap, ◌∙◌}
+use mathlib.Core.Bool.{false}
+use mathlib.Core.List.{List}
+use Prim.Native.Nat.{ℕ, ◌+◌, ◌-◌, ◌*◌, ◌/◌, ◌<◌}
+use native.Mathlib.Omega.{arith}
+use borrow.Author.Rules.{rules}
+use lib.ListN.{length, get_or, set}
+use lib.Ieee.{Float}
+use Rattle.doubles.specs.Doubles.{plus_zero, decoded}
+use Rattle.doubles128.specs.Doubles128.{size_limit128}
+use Rattle.doubles128.specs.Steps.{large}
+use Rattle.rows.proofs.Walk.{walked_end, Walking, walking_next}
+use Rattle.field64.specs.Field.{add_mod}
+use Rattle.field128.specs.Field128.{p128, number_of, elements_of}
+use Rattle.field128.proofs.Pairs.{elements_length}
+use Rattle.vdaf.specs.Aggregates.{sizes_rule, decoded_sums}
+use Rattle.vdaf.proofs.Decoded.{length-decoded_sums, get_or-decoded_sums}
+use Rattle.vdaf128.proofs.Sizes.{sums, sums_long, sum_inside, sum_is, sum_below_lem, all_small, alike}
+use Rattle.vdaf128.proofs.decode_sums.Invariants.{Inv}
+use Rattle.vdaf128.proofs.decode_sums.Goals as goal
+
+module _ (f : ℕ) (l r : List ℕ) (d : List Float) (same : (length l ≡ 2 * length d) × (length r ≡ 2 * length d)) where
+  rows_same : length l ≡ length r
+  rows_same = same.0 ∙ sym same.1
+
+  half : length d ≡ length l / 2
+  half = omega (arith, same.0)
+
+  long : length (decoded_sums p128 f (elements_of l) (elements_of r)) ≡ length d
+  long = length-decoded_sums p128 f (elements_of l) (elements_of r) (alike l r rows_same) ∙ elements_length l ∙ sym half
+
+  small : (sizes_rule p128 size_limit128 0 (sums l r)).number ≡ 0 → (i : ℕ) → i < length d → (s : ℕ) → s ≡ add_mod p128 (get_or (elements_of l) i 0) (get_or (elements_of r) i 0) → large s ≡ false
+  small z i h s e = rw (sum_is l r rows_same i (omega (arith, half)) s e) (all_small p128 size_limit128 0 (sums l r) z i (omega (arith, sums_long l r rows_same, half)))
+
+  turn : (a : List Float) (i : ℕ) → Inv f l r d a i → i < length a → (s : ℕ) (y : Float) → s ≡ add_mod p128 (get_or (elements_of l) i 0) (get_or (elements_of r) i 0) → y ≡ decoded p128 s f → Inv f l r d (set a i y) (i + 1)
+  turn a i inv h s y e g =
+      let k : i < length (elements_of l) = (sum_inside l r rows_same i (omega (arith, half, inv.1))).0 in
+      walking_next plus_zero (decoded_sums p128 f (elements_of l) (elements_of r)) d a i y long inv h (g ∙ rw e (sym (get_or-decoded_sums p128 f (elements_of l) (elements_of r) (alike l r rows_same) plus_zero i k)))
+
+pub loop-i-init : goal.loop-i-init
+loop-i-init c = (search rules, refl, refl)
+
+pub sum_at-requires : goal.sum_at-requires
+sum_at-requires c =
+    let l = c in
+    let s = l in
+    record {
+      i_in_bounds = sum_inside s.args.left.now s.args.right.now (rows_same s.args.frac_bits s.args.left.now s.args.right.now s.args.decoded.now s.requires.left_len) l.loop-i.i (omega (arith, s.requires.left_len.0, l.loop-i.invariant.1));
+      below = s.requires.below;
+    }
+
+pub decode-requires : goal.decode-requires
+decode-requires c =
+    let l = c in
+    let s = l in
+    record {
+      fact_1 = sum_below_lem _ _ _ c.sum_at.ensures;
+      fact_2 = small s.args.frac_bits s.args.left.now s.args.right.now s.args.decoded.now s.requires.left_len s.requires.right_value l.loop-i.i (omega (arith, l.loop-i.invariant.1)) _ c.sum_at.ensures;
+      fact_3 = s.requires.scale_value;
+    }
+
+pub loop-i-preserved : goal.loop-i-preserved
+loop-i-preserved c =
+    let k = c in
+    let l = k in
+    let s = l in
+    turn s.args.frac_bits s.args.left.now s.args.right.now s.args.decoded.now s.requires.left_len l.loop-i.decoded l.loop-i.i l.loop-i.invariant (omega arith) (number_of k.sum_at.result) c.decode.result k.sum_at.ensures c.decode.ensures
+
+pub shape_of-decoded : goal.shape_of-decoded
+shape_of-decoded c = c.loop-i.invariant.1
+
+pub returns : goal.returns
+returns c =
+    let l = c in
+    let s = l in
+    l.loop-i.invariant.2 ∙ walked_end _ _ l.loop-i.i (long s.args.frac_bits s.args.left.now s.args.right.now s.args.decoded.now s.requires.left_len) (omega arith)

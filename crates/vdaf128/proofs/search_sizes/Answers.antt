@@ -1,0 +1,57 @@
+-- `vdaf128::search_sizes` meets its contract. The invariant: the answer for the sums is that for the rest, counted from i. Assumes nothing.
+use mathlib.Core.Path.{◌≡◌, refl, sym, ap, ◌∙◌}
+use Prim.Native.Nat.{◌-◌, ◌/◌, ◌≤◌}
+use native.Mathlib.Omega.{arith}
+use borrow.Author.Rules.{rules}
+use lib.ListN.{length, get_or, drop}
+use Rattle.rules.specs.declared.Answer.{Answer}
+use Rattle.field128.specs.Field128.{p128, number_of}
+use Rattle.doubles.specs.Doubles.{size_rule}
+use Rattle.doubles128.specs.Doubles128.{size_limit128}
+use Rattle.vdaf.specs.Aggregates.{sizes_rule}
+use Rattle.vdaf128.proofs.Sizes.{sums, sums_long, sum_inside, sum_is, sum_below_lem, sizes_next, sizes_stop, sizes_end}
+use Rattle.vdaf128.proofs.search_sizes.Goals as goal
+
+pub loop-i-init : goal.loop-i-init
+loop-i-init c = (omega arith, refl)
+
+pub sum_at-requires : goal.sum_at-requires
+sum_at-requires c =
+    let l = c in
+    let s = l in
+    record {
+      i_in_bounds = sum_inside s.args.left.now s.args.right.now s.requires.left_len l.loop-i.i (omega arith);
+      below = s.requires.below;
+    }
+
+pub check_size-answer-requires : goal.check_size-answer-requires
+check_size-answer-requires c = sum_below_lem _ _ _ c.sum_at.ensures
+
+pub returns-then-answer-ne0 : goal.returns-then-answer-ne0
+returns-then-answer-ne0 c =
+    let k = c in
+    let l = k in
+    let s = l in
+    let x = s.args.left.now in
+    let y = s.args.right.now in
+    let e = sum_is x y s.requires.left_len l.loop-i.i (omega arith) (number_of k.sum_at.result) k.sum_at.ensures in
+    sizes_stop p128 size_limit128 (sums x y) l.loop-i.i (omega (arith, sums_long x y s.requires.left_len)) l.loop-i.invariant.1 k.check_size-answer.result (k.check_size-answer.ensures ∙ ap (size_rule p128 size_limit128) e) c.if-answer-ne0.true
+
+pub loop-i-preserved : goal.loop-i-preserved
+loop-i-preserved c =
+    let k = c in
+    let l = k in
+    let s = l in
+    let x = s.args.left.now in
+    let y = s.args.right.now in
+    let e = sum_is x y s.requires.left_len l.loop-i.i (omega arith) (number_of k.sum_at.result) k.sum_at.ensures in
+    let z : (size_rule p128 size_limit128 (get_or (sums x y) l.loop-i.i 0)).number ≡ 0 = ap (λ (a : Answer). a.number) (sym (k.check_size-answer.ensures ∙ ap (size_rule p128 size_limit128) e)) ∙ c.if-answer-ne0.false in
+    (omega arith, sizes_next p128 size_limit128 (sums x y) l.loop-i.i (omega (arith, sums_long x y s.requires.left_len)) l.loop-i.invariant.1 z)
+
+pub returns : goal.returns
+returns c =
+    let l = c in
+    let s = l in
+    let x = s.args.left.now in
+    let y = s.args.right.now in
+    c.accepted.ensures ∙ sizes_end p128 size_limit128 (sums x y) l.loop-i.i (omega (arith, sums_long x y s.requires.left_len)) l.loop-i.invariant.1

@@ -1,0 +1,32 @@
+-- `weights::add_bytes` meets its contract. Assumes nothing.
+use mathlib.Core.Path.{◌∙◌}
+use native.Mathlib.Nat.{mod-lt}
+use lib.Dec.{lit<}
+use Rattle.field64.specs.Field.{p64, sub_mod}
+use Rattle.field64.proofs.Sums.{evaluate_below}
+use Rattle.weights.proofs.Weights.{part_fits, part_weighed, bytes_weighed}
+use borrow.Author.Rules.{rules}
+use Rattle.weights.proofs.add_bytes.Goals as goal
+
+pub write_weights-requires : goal.write_weights-requires
+write_weights-requires c = c.requires.pair_weights
+
+pub weighed_sum-weighed-requires : goal.weighed_sum-weighed-requires
+weighed_sum-weighed-requires c =
+    let s = c in
+    (s.requires.below.1.0, part_fits s.args.xs.now s.args.bytes.now _ c.write_weights.ensures s.requires.below.1.1)
+
+pub add-requires : goal.add-requires
+add-requires c = (c.requires.r_lt_p64.0, rw c.weighed_sum-weighed.ensures (evaluate_below p64 1 (lit< tt) _))
+
+pub sub-requires : goal.sub-requires
+sub-requires c = (rw c.add.ensures (mod-lt _ (lit< tt)), rw c.requires.r_lt_p64.1 (evaluate_below p64 1 (lit< tt) _))
+
+pub returns : goal.returns
+returns c =
+    let s = c in
+    let w = c in
+    let xs = s.args.xs.now in
+    c.sub.ensures
+    ∙ (λ i. sub_mod p64 (c.add.ensures i) s.args.plain)
+    ∙ bytes_weighed p64 (lit< tt) s.args.r s.args.plain w.weighed_sum-weighed.result xs s.args.bytes.now s.requires.below.0 s.requires.below.1.1 s.requires.r_lt_p64.1 (part_weighed xs s.args.bytes.now _ w.write_weights.ensures p64 _ w.weighed_sum-weighed.ensures)

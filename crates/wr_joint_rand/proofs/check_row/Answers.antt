@@ -1,0 +1,20 @@
+-- `wr_joint_rand::check_row` meets its contract. Assumes nothing.
+use borrow.Author.Rules.{rules}
+use mathlib.Core.Path.{◌∙◌, ap, sym}
+use mathlib.Core.List.{List}
+use Prim.Native.Nat.{ℕ}
+use lib.ListN.{length}
+use Rattle.rows.specs.Rows.{row_rule}
+use Rattle.turboshake.proofs.Shake.{bytes_all}
+use Rattle.wr_joint_rand.proofs.Seeds.{rule_is, lent, from_seed}
+use Rattle.wr_joint_rand.proofs.check_row.Goals as goal
+
+pub returns-then-seeded : goal.returns-then-seeded
+returns-then-seeded c =
+    let s = c in
+    c.check_len.ensures ∙ rule_is s.args.stream_len s.args.row.now s.requires (bytes_all s.args.row.now (λ j h. (c.shared_slice_known-1.given j).fits)) ∙ ap (λ (bytes : List ℕ). row_rule 2 (length bytes) s.args.stream_len) (sym (from_seed s.args.seeded s.args.stream_len s.args.row.now c.if-seeded.true))
+
+pub returns : goal.returns
+returns c =
+    let s = c in
+    c.check_len-2.ensures ∙ ap (λ (bytes : List ℕ). row_rule 2 (length bytes) s.args.stream_len) (sym (lent s.args.seeded s.args.stream_len s.args.row.now c.if-seeded.false))

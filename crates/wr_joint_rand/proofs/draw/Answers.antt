@@ -1,0 +1,17 @@
+-- `wr_joint_rand::draw` meets its contract. Assumes nothing.
+use borrow.Author.Rules.{rules}
+use mathlib.Core.Path.{sym, ap, ◌∙◌}
+use lib.Seq.{length-take-le}
+use Rattle.turboshake.specs.Stream.{after}
+use Rattle.wr_joint_rand.proofs.Blocks.{drawn_front}
+use Rattle.wr_joint_rand.proofs.draw.Goals as goal
+
+pub slice_bounds-fill-end-2 : goal.slice_bounds-fill-end-2
+slice_bounds-fill-end-2 c = sym (length-take-le c.args.count c.args.buffer.now c.requires.1)
+
+pub returns : goal.returns
+returns c =
+    let s = c in
+    let f = c.fill in
+    let l = length-take-le s.args.count s.args.buffer.now s.requires.1 in
+    (drawn_front s.args.count _ f.new.out _ s.args.stream l f.ensures.0, (f.ensures.1.0 ∙ ap (λ n. after n s.args.stream) l, f.ensures.1.1))

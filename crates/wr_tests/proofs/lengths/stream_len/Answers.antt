@@ -1,0 +1,12 @@
+-- `wr_tests::lengths::stream_len` meets its contract. Assumes nothing.
+use Prim.Native.Nat.{◌+◌, ◌/◌}
+use native.Mathlib.Omega.{arith}
+use borrow.Author.Rules.{rules}
+use Rattle.wr_joint_rand.proofs.Blocks.{few_bytes}
+use Rattle.wr_tests.proofs.lengths.stream_len.Goals as goal
+
+pub overflow_mul-result : goal.overflow_mul-result
+overflow_mul-result c =
+    let s = c in
+    let i = s.args.param in
+    record { fits = omega (arith, few_bytes i.num_wr_tests ((i.dimension + 3) / 4) s.requires.0 (omega (arith, s.requires.1))) }
