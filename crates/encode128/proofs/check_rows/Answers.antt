@@ -1,0 +1,23 @@
+-- `encode128::check_rows` meets its contract. Assumes nothing.
+use Rattle.pine.proofs.Sizes.{scale_is}
+use Rattle.encode128.proofs.Rows.{words_fit}
+use borrow.Author.Rules.{rules}
+use Rattle.encode128.proofs.check_rows.Goals as goal
+
+pub overflow_mul-pine : goal.overflow_mul-pine
+overflow_mul-pine c =
+    let s = c in
+    record { fits = (words_fit s.args.pine s.requires).0 }
+
+pub overflow_mul-pine-2 : goal.overflow_mul-pine-2
+overflow_mul-pine-2 c =
+    let s = c in
+    record { fits = (words_fit s.args.pine s.requires).1 }
+
+pub check_coordinates-coordinates-requires : goal.check_coordinates-coordinates-requires
+check_coordinates-coordinates-requires c =
+    let d = c.requires in
+    scale_is d.param _ d.is
+
+pub returns : goal.returns
+returns c = rw (c.or-4.ensures, c.or-3.ensures, c.or-2.ensures, c.or.ensures, c.check_gradient_len-gradient_len.ensures, c.check_coordinates-coordinates.ensures, c.check_len-row_4.ensures, c.check_len-row_3.ensures)

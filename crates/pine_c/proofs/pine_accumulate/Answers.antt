@@ -1,0 +1,12 @@
+-- `pine_c::pine_accumulate` meets its contract. Assumes nothing.
+use mathlib.Core.Path.{ap, ◌∙◌}
+use borrow.Author.Rules.{rules}
+use Rattle.pine.specs.declared.PineParam.{PineParam}
+use Rattle.pine.specs.Param.{Field64}
+use Rattle.vdaf.specs.Aggregates.{accumulate_of}
+use Rattle.pine_c.proofs.pine_accumulate.Goals as goal
+
+pub returns : goal.returns
+returns c =
+    let s = c in
+    c.accumulate.ensures ∙ ap (λ (i : PineParam). accumulate_of Field64 i s.args.agg.now s.args.share.now) c.param_of.ensures

@@ -1,0 +1,12 @@
+-- `pine_c::pine_encode_with_wr_joint_rand` meets its contract. Assumes nothing.
+use mathlib.Core.Path.{ap, ◌∙◌}
+use borrow.Author.Rules.{rules}
+use Rattle.pine.specs.declared.PineParam.{PineParam}
+use Rattle.pine.specs.Param.{Field64}
+use Rattle.flp.specs.Encode.{encode_of}
+use Rattle.pine_c.proofs.pine_encode_with_wr_joint_rand.Goals as goal
+
+pub returns : goal.returns
+returns c =
+    let s = c in
+    c.encode_with_wr_joint_rand-answer.ensures ∙ ap (λ (i : PineParam). encode_of Field64 i s.args.gradient.now s.args.stream.now s.args.measurement.now s.args.results.now) c.param_of-param.ensures

@@ -1,0 +1,11 @@
+-- `pine_c::pine_file_add` meets its contract. Assumes nothing.
+use mathlib.Core.Path.{ap, ◌∙◌}
+use borrow.Author.Rules.{rules}
+use Rattle.pine.specs.declared.PineParam.{PineParam}
+use Rattle.file_add.specs.Add.{add_of}
+use Rattle.pine_c.proofs.pine_file_add.Goals as goal
+
+pub returns : goal.returns
+returns c =
+    let s = c in
+    c.file_add.ensures ∙ ap (λ (i : PineParam). add_of i s.args.key.bytes s.args.old.now s.args.share.now s.args.second.now) c.param_of.ensures

@@ -1,0 +1,11 @@
+-- `pine_c::pine_file_max` meets its contract. Assumes nothing.
+use mathlib.Core.Path.{ap, ◌∙◌}
+use borrow.Author.Rules.{rules}
+use Rattle.pine.specs.declared.PineParam.{PineParam}
+use Rattle.day_file.specs.Calls.{max_of}
+use Rattle.pine_c.proofs.pine_file_max.Goals as goal
+
+pub returns : goal.returns
+returns c =
+    let s = c in
+    c.file_max.ensures ∙ ap (λ (i : PineParam). max_of i s.args.reports) c.param_of.ensures

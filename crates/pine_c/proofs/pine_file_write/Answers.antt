@@ -1,0 +1,11 @@
+-- `pine_c::pine_file_write` meets its contract. Assumes nothing.
+use mathlib.Core.Path.{ap, ◌∙◌}
+use borrow.Author.Rules.{rules}
+use Rattle.pine.specs.declared.PineParam.{PineParam}
+use Rattle.day_file.specs.Calls.{write_of}
+use Rattle.pine_c.proofs.pine_file_write.Goals as goal
+
+pub returns : goal.returns
+returns c =
+    let s = c in
+    c.file_write.ensures ∙ ap (λ (i : PineParam). write_of i s.args.count s.args.contents.now s.args.bodies.now s.args.file.now) c.param_of.ensures

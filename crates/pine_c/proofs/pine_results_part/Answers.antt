@@ -1,0 +1,19 @@
+-- `pine_c::pine_results_part` meets its contract. Assumes nothing.
+use mathlib.Core.Path.{ap, ◌∙◌}
+use borrow.Author.Rules.{rules}
+use Rattle.pine.specs.declared.PineParam.{PineParam}
+use Rattle.rules.specs.Rules.{in_order}
+use Rattle.pine.specs.Param.{Field64}
+use Rattle.pine.specs.Record.{encoded_input_len_of}
+use Rattle.flp.specs.Circuits.{part_rules, results_part_of}
+use Rattle.parts.specs.Places.{part_at}
+use Rattle.pine_c.proofs.pine_results_part.Goals as goal
+
+pub returns : goal.returns
+returns c =
+    let s = c in
+    let e = c.param_of.ensures in
+    record {
+      value = c.locate_results.ensures.value ∙ ap (λ (i : PineParam). part_at (in_order (part_rules Field64 i s.args.full.now)) (encoded_input_len_of i) i.num_wr_tests) e;
+      full_value = c.locate_results.ensures.full_value ∙ ap (λ (i : PineParam). results_part_of Field64 i s.args.full.now) e;
+    }

@@ -1,0 +1,12 @@
+-- `pine_c::pine_sample` meets its contract. Assumes nothing.
+use mathlib.Core.Path.{ap, ◌∙◌}
+use borrow.Author.Rules.{rules}
+use Rattle.pine.specs.declared.PineParam.{PineParam}
+use Rattle.pine.specs.Param.{Field64}
+use Rattle.sampler.specs.Sampler.{sample_of}
+use Rattle.pine_c.proofs.pine_sample.Goals as goal
+
+pub returns : goal.returns
+returns c =
+    let s = c in
+    c.sample.ensures ∙ ap (λ (i : PineParam). sample_of Field64 i s.args.stream.now s.args.share.now) c.param_of.ensures

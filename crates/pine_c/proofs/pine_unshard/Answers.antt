@@ -1,0 +1,12 @@
+-- `pine_c::pine_unshard` meets its contract. Assumes nothing.
+use mathlib.Core.Path.{ap, ◌∙◌}
+use borrow.Author.Rules.{rules}
+use Rattle.pine.specs.declared.PineParam.{PineParam}
+use Rattle.pine.specs.Param.{Field64}
+use Rattle.vdaf.specs.Aggregates.{unshard_of}
+use Rattle.pine_c.proofs.pine_unshard.Goals as goal
+
+pub returns : goal.returns
+returns c =
+    let s = c in
+    c.unshard.ensures ∙ ap (λ (i : PineParam). unshard_of Field64 i s.args.left.now s.args.right.now s.args.decoded.now) c.param_of.ensures

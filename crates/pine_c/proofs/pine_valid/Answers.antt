@@ -1,0 +1,17 @@
+-- `pine_c::pine_valid` meets its contract. Assumes nothing.
+use mathlib.Core.Path.{ap, ◌∙◌}
+use borrow.Author.Rules.{rules}
+use Rattle.pine.specs.declared.PineParam.{PineParam}
+use Rattle.pine.specs.Param.{Field64}
+use Rattle.pine.specs.Record.{gadget_calls_of}
+use Rattle.flp.specs.Circuits.{valid_of}
+use Rattle.pine_c.proofs.pine_valid.Goals as goal
+
+pub returns : goal.returns
+returns c =
+    let s = c in
+    let e = c.param_of.ensures in
+    record {
+      value = c.valid.ensures.value ∙ ap (λ (i : PineParam). valid_of Field64 i s.args.num_shares s.args.full.now s.args.joint_rand.now) e;
+      gadget_calls_value = λ z. c.valid.ensures.gadget_calls_value z ∙ ap (λ (i : PineParam). gadget_calls_of i) e;
+    }

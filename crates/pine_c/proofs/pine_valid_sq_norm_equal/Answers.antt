@@ -1,0 +1,17 @@
+-- `pine_c::pine_valid_sq_norm_equal` meets its contract. Assumes nothing.
+use mathlib.Core.Path.{ap, ◌∙◌}
+use borrow.Author.Rules.{rules}
+use Rattle.pine.specs.declared.PineParam.{PineParam}
+use Rattle.pine.specs.Param.{Field64}
+use Rattle.pine.specs.Record.{gadget_calls_norm}
+use Rattle.flp.specs.Circuits.{valid_equal_of}
+use Rattle.pine_c.proofs.pine_valid_sq_norm_equal.Goals as goal
+
+pub returns : goal.returns
+returns c =
+    let s = c in
+    let e = c.param_of.ensures in
+    record {
+      value = c.valid_sq_norm_equal.ensures.value ∙ ap (λ (i : PineParam). valid_equal_of Field64 i s.args.num_shares s.args.full.now) e;
+      gadget_calls_value = λ z. c.valid_sq_norm_equal.ensures.gadget_calls_value z ∙ ap (λ (i : PineParam). gadget_calls_norm i) e;
+    }

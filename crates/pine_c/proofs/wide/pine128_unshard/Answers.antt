@@ -1,0 +1,12 @@
+-- `pine_c::wide::pine128_unshard` meets its contract. Assumes nothing.
+use mathlib.Core.Path.{ap, ◌∙◌}
+use borrow.Author.Rules.{rules}
+use Rattle.pine.specs.declared.PineParam.{PineParam}
+use Rattle.vdaf.specs.Aggregates.{unshard_of}
+use Rattle.params128.specs.Field128.{Field128}
+use Rattle.pine_c.proofs.wide.pine128_unshard.Goals as goal
+
+pub returns : goal.returns
+returns c =
+    let s = c in
+    c.unshard.ensures ∙ ap (λ (i : PineParam). unshard_of Field128 i s.args.left.now s.args.right.now s.args.decoded.now) c.param_of.ensures
