@@ -1,4 +1,4 @@
-// Answers are collected in a lent buffer, which is written out where it is full. A function here
+// Answers are collected in a lent buffer, which goes out through a writer where it is full. A function here
 // takes how many bytes wait in the buffer, and answers how many wait then.
 use lines::patterns::pattern_of;
 use std::io;
@@ -18,10 +18,9 @@ impl<W: Write> Write for Waiting<'_, W> {
         Ok(buf.len())
     }
 
+    // What waits goes on waiting, until the buffer is full or the caller writes it out.
     fn flush(&mut self) -> io::Result<()> {
-        flush(self.writer, self.out, self.at)?;
-        self.at = 0;
-        self.writer.flush()
+        Ok(())
     }
 }
 
