@@ -2,63 +2,108 @@
 #![tactic(auto)]
 
 use rules::Answer;
+use std::io;
+use std::io::Write;
 
 pub mod print;
 
-pub fn bad(out: &mut [u8], at: usize) -> usize {
-    print::text(out, at, b"bad\n")
+pub fn bad<W: Write>(writer: &mut W, out: &mut [u8], at: usize) -> io::Result<usize> {
+    print::text(writer, out, at, b"bad\n")
 }
 
-pub fn refused(out: &mut [u8], at: usize, answer: Answer) -> usize {
-    let to = print::decimal(out, at, b"refused ", answer.number);
-    let to = print::decimal(out, to, b" ", answer.place);
-    print::text(out, to, b"\n")
+pub fn refused<W: Write>(
+    writer: &mut W,
+    out: &mut [u8],
+    at: usize,
+    answer: Answer,
+) -> io::Result<usize> {
+    let to = print::decimal(writer, out, at, b"refused ", answer.number)?;
+    let to = print::decimal(writer, out, to, b" ", answer.place)?;
+    print::text(writer, out, to, b"\n")
 }
 
 // The refusal of a call that was lent rows. Were they not left as they had been, it would say so.
-pub fn refused_lent(out: &mut [u8], at: usize, answer: Answer, kept: bool) -> usize {
+pub fn refused_lent<W: Write>(
+    writer: &mut W,
+    out: &mut [u8],
+    at: usize,
+    answer: Answer,
+    kept: bool,
+) -> io::Result<usize> {
     if kept {
-        refused(out, at, answer)
+        refused(writer, out, at, answer)
     } else {
-        print::text(out, at, b"changed\n")
+        print::text(writer, out, at, b"changed\n")
     }
 }
 
 // The refusal, or `ok` and one hexadecimal number.
-pub fn answer_hex(out: &mut [u8], at: usize, answer: Answer, n: u64, width: usize) -> usize {
+pub fn answer_hex<W: Write>(
+    writer: &mut W,
+    out: &mut [u8],
+    at: usize,
+    answer: Answer,
+    n: u64,
+    width: usize,
+) -> io::Result<usize> {
     if answer.number != 0 {
-        return refused(out, at, answer);
+        return refused(writer, out, at, answer);
     }
-    let to = print::hex(out, at, b"ok ", n, width);
-    print::text(out, to, b"\n")
+    let to = print::hex(writer, out, at, b"ok ", n, width)?;
+    print::text(writer, out, to, b"\n")
 }
 
 // The refusal, or `ok` and one hexadecimal number of two words.
-pub fn answer_wide_hex(out: &mut [u8], at: usize, answer: Answer, low: u64, high: u64) -> usize {
+pub fn answer_wide_hex<W: Write>(
+    writer: &mut W,
+    out: &mut [u8],
+    at: usize,
+    answer: Answer,
+    low: u64,
+    high: u64,
+) -> io::Result<usize> {
     if answer.number != 0 {
-        return refused(out, at, answer);
+        return refused(writer, out, at, answer);
     }
-    let to = print::wide_hex(out, at, b"ok ", low, high);
-    print::text(out, to, b"\n")
+    let to = print::wide_hex(writer, out, at, b"ok ", low, high)?;
+    print::text(writer, out, to, b"\n")
 }
 
 // Of elements of one word, or of two.
-pub fn ok_elements(out: &mut [u8], at: usize, row: &[u64], wide: bool) -> usize {
-    let to = print::text(out, at, b"ok ");
-    let to = print::elements_of(out, to, row, wide);
-    print::text(out, to, b"\n")
+pub fn ok_elements<W: Write>(
+    writer: &mut W,
+    out: &mut [u8],
+    at: usize,
+    row: &[u64],
+    wide: bool,
+) -> io::Result<usize> {
+    let to = print::text(writer, out, at, b"ok ")?;
+    let to = print::elements_of(writer, out, to, row, wide)?;
+    print::text(writer, out, to, b"\n")
 }
 
-pub fn ok_two_rows(out: &mut [u8], at: usize, first: &[u64], second: &[u64], wide: bool) -> usize {
-    let to = print::text(out, at, b"ok ");
-    let to = print::elements_of(out, to, first, wide);
-    let to = print::text(out, to, b" ");
-    let to = print::elements_of(out, to, second, wide);
-    print::text(out, to, b"\n")
+pub fn ok_two_rows<W: Write>(
+    writer: &mut W,
+    out: &mut [u8],
+    at: usize,
+    first: &[u64],
+    second: &[u64],
+    wide: bool,
+) -> io::Result<usize> {
+    let to = print::text(writer, out, at, b"ok ")?;
+    let to = print::elements_of(writer, out, to, first, wide)?;
+    let to = print::text(writer, out, to, b" ")?;
+    let to = print::elements_of(writer, out, to, second, wide)?;
+    print::text(writer, out, to, b"\n")
 }
 
-pub fn ok_doubles(out: &mut [u8], at: usize, row: &[f64]) -> usize {
-    let to = print::text(out, at, b"ok ");
-    let to = print::doubles(out, to, row);
-    print::text(out, to, b"\n")
+pub fn ok_doubles<W: Write>(
+    writer: &mut W,
+    out: &mut [u8],
+    at: usize,
+    row: &[f64],
+) -> io::Result<usize> {
+    let to = print::text(writer, out, at, b"ok ")?;
+    let to = print::doubles(writer, out, to, row)?;
+    print::text(writer, out, to, b"\n")
 }

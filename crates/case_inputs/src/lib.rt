@@ -54,7 +54,7 @@ pub fn read_later(line: &[u8]) -> Later {
     let w = words::next_word(line, Cursor::new());
     let start = w.start;
     let end = w.end;
-    if !&line[start..end] == b"with" {
+    if &line[start..end] != b"with".as_slice() {
         return Later {
             alpha_numerator: 87,
             alpha_denominator: 10,

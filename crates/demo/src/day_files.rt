@@ -7,6 +7,8 @@ use crate::report::{param, short};
 use crate::{day, print};
 use day_file::FileLen;
 use rules::Answer;
+use std::io;
+use std::io::Write;
 
 // An entry has 12 bytes of contents, and three elements.
 const CONTENTS: usize = 12;
@@ -101,14 +103,15 @@ pub fn read(file: &[u8], len: usize, contents: &mut [u8], bodies: &mut [u64]) ->
 
 // The contents of an entry, with which a file begins once its header is off: an address, a valve, and how many
 // reports were added. Nothing of a row that is too short.
-pub fn address(contents: &[u8], entry: usize)
+pub fn address<W: Write>(writer: &mut W, contents: &[u8], entry: usize) -> io::Result<()>
     requires { entry < 24 }
 {
     let start = entry * CONTENTS;
     let end = start + 6;
     if end <= contents.len() {
-        print::address(&contents[start..end]);
+        print::address(writer, &contents[start..end])?;
     }
+    Ok(())
 }
 
 pub fn valve(contents: &[u8], entry: usize) -> u64

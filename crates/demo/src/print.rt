@@ -1,86 +1,88 @@
-// Text on standard output.
+// Text on a writer, which is standard output where main calls.
 use crate::made_up;
-use libc::STDOUT_FILENO;
 use rules::Answer;
+use std::io;
+use std::io::Write;
 
-pub fn text(s: &[u8]) {
-    io::write_all(STDOUT_FILENO, s);
+pub fn text<W: Write>(writer: &mut W, s: &[u8]) -> io::Result<()> {
+    writer.write_all(s)
 }
 
 // A text and the number before it.
-pub fn counted(n: u64, s: &[u8]) {
-    io::print_decimal(STDOUT_FILENO, n);
-    text(s);
+pub fn counted<W: Write>(writer: &mut W, n: u64, s: &[u8]) -> io::Result<()> {
+    write!(writer, "{n}")?;
+    text(writer, s)
 }
 
-pub fn answer(answer: Answer) {
-    text(b"rule ");
-    counted(answer.number, b", place ");
-    counted(answer.place, b"");
+pub fn answer<W: Write>(writer: &mut W, answer: Answer) -> io::Result<()> {
+    text(writer, b"rule ")?;
+    counted(writer, answer.number, b", place ")?;
+    counted(writer, answer.place, b"")
 }
 
 // What became of a call.
-pub fn outcome(given: Answer, accepted: &[u8]) {
+pub fn outcome<W: Write>(writer: &mut W, given: Answer, accepted: &[u8]) -> io::Result<()> {
     if given.number == 0 {
-        text(accepted);
+        text(writer, accepted)
     } else {
-        text(b"refused by ");
-        answer(given);
+        text(writer, b"refused by ")?;
+        answer(writer, given)
     }
 }
 
-fn byte(b: u8) {
-    io::print_hex(STDOUT_FILENO, b as u64, 2);
+fn byte<W: Write>(writer: &mut W, b: u8) -> io::Result<()> {
+    write!(writer, "{b:02x}")
 }
 
 // Bytes in hexadecimal, a colon between two.
-pub fn address(bytes: &[u8]) {
+pub fn address<W: Write>(writer: &mut W, bytes: &[u8]) -> io::Result<()> {
     let mut i = 0;
     while i < bytes.len() {
         if 0 < i {
-            text(b":");
+            text(writer, b":")?;
         }
-        byte(bytes[i]);
+        byte(writer, bytes[i])?;
         i += 1;
     }
+    Ok(())
 }
 
-pub fn element(x: u64) {
-    io::print_hex(STDOUT_FILENO, x, 16);
+pub fn element<W: Write>(writer: &mut W, x: u64) -> io::Result<()> {
+    write!(writer, "{x:016x}")
 }
 
 // Two places, with a space for a 0 in front.
-pub fn two_places(n: u64) {
+pub fn two_places<W: Write>(writer: &mut W, n: u64) -> io::Result<()> {
     if n < 10 {
-        text(b" ");
+        text(writer, b" ")?;
     }
-    counted(n, b"");
+    counted(writer, n, b"")
 }
 
 // A number of quarters, with both its decimals.
-fn quarters(n: u64) {
+fn quarters<W: Write>(writer: &mut W, n: u64) -> io::Result<()> {
     let hundredths = (n % 4) * 25;
-    counted(n / 4, b".");
-    counted(hundredths / 10, b"");
-    counted(hundredths % 10, b"");
+    counted(writer, n / 4, b".")?;
+    counted(writer, hundredths / 10, b"")?;
+    counted(writer, hundredths % 10, b"")
 }
 
 // In columns: a space before a number below 10.
-fn signed(sign: &[u8], n: u64) {
+fn signed<W: Write>(writer: &mut W, sign: &[u8], n: u64) -> io::Result<()> {
     if n < 40 {
-        text(b" ");
+        text(writer, b" ")?;
     }
-    text(sign);
-    quarters(n);
+    text(writer, sign)?;
+    quarters(writer, n)
 }
 
 // A multiple of 1/4, which as an element with 2 fractional bits is a number of quarters. The upper half of the
 // elements are the negative numbers.
-pub fn double(x: f64) {
+pub fn double<W: Write>(writer: &mut W, x: f64) -> io::Result<()> {
     let n = doubles::f64_to_field(x, 2).element;
     if n <= field64::P / 2 {
-        signed(b" ", n);
+        signed(writer, b" ", n)
     } else {
-        signed(b"-", field64::neg(made_up::element(n)));
+        signed(writer, b"-", field64::neg(made_up::element(n)))
     }
 }

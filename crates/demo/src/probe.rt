@@ -2,6 +2,8 @@
 use crate::{print, report};
 use pine::WrTestRule;
 use rules::Answer;
+use std::io;
+use std::io::Write;
 
 // Times 2^2 the first two coordinates are 2^32 - 1 and 2^16, and the sum of their squares is p. One stream
 // in 16 leaves both out of both tests, as this one does: it was chosen, and is lent in a seed's place to the call
@@ -16,6 +18,6 @@ fn encode(true_sq_norm: bool) -> Answer {
 }
 
 // 12. The switch asks for the bound of the true squared norm, which is not taken modulo p, too.
-pub fn print(true_sq_norm: bool) {
-    print::outcome(encode(true_sq_norm), b"encoded");
+pub fn print<W: Write>(writer: &mut W, true_sq_norm: bool) -> io::Result<()> {
+    print::outcome(writer, encode(true_sq_norm), b"encoded")
 }

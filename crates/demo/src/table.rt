@@ -5,20 +5,22 @@ ghost use Rattle.std.specs.Prelude.{◌<◌, ◌≤◌};
 
 use crate::report::{DIMENSION, param};
 use crate::{day_files, filing, made_up, print, row};
+use std::io;
+use std::io::Write;
 
-fn entry(decoded: f64, sum: f64, equal: bool) {
-    print::text(b"     ");
-    print::double(decoded);
-    print::text(b" ");
-    print::double(sum);
+fn entry<W: Write>(writer: &mut W, decoded: f64, sum: f64, equal: bool) -> io::Result<()> {
+    print::text(writer, b"     ")?;
+    print::double(writer, decoded)?;
+    print::text(writer, b" ")?;
+    print::double(writer, sum)?;
     if equal {
-        print::text(b" equal");
+        print::text(writer, b" equal")
     } else {
-        print::text(b" other");
+        print::text(writer, b" other")
     }
 }
 
-fn key(leader: &[u64], helper: &[u64], key: usize)
+fn key<W: Write>(writer: &mut W, leader: &[u64], helper: &[u64], key: usize) -> io::Result<()>
     requires { key < 24 }
 {
     let mut decoded = [0.0f64; 3];
@@ -26,45 +28,73 @@ fn key(leader: &[u64], helper: &[u64], key: usize)
     made_up::gradient(key, &mut gradient);
     filing::read(leader, helper, key, &mut decoded);
     entry(
+        writer,
         decoded[0],
         gradient[0],
         filing::is_true(leader, helper, key),
-    );
+    )
 }
 
-fn valve(contents: &[u8], leader: &[u64], helper: &[u64], valve: usize)
+fn valve<W: Write>(
+    writer: &mut W,
+    contents: &[u8],
+    leader: &[u64],
+    helper: &[u64],
+    valve: usize,
+) -> io::Result<()>
     requires { valve < 12 }
 {
-    print::two_places(day_files::valve(contents, valve));
-    key(leader, helper, valve);
-    key(leader, helper, filing::VALVES + valve);
-    print::text(b"\n");
+    print::two_places(writer, day_files::valve(contents, valve))?;
+    key(writer, leader, helper, valve)?;
+    key(writer, leader, helper, filing::VALVES + valve)?;
+    print::text(writer, b"\n")
 }
 
 // The merged aggregates of the two servers, and the true sum over the valves from the first key on.
-fn totals(leader_total: &[u64], helper_total: &[u64], first: usize, withdrawn: usize)
+fn totals<W: Write>(
+    writer: &mut W,
+    leader_total: &[u64],
+    helper_total: &[u64],
+    first: usize,
+    withdrawn: usize,
+) -> io::Result<()>
     requires { first ≤ 12 }
 {
     let mut decoded = [0.0f64; 3];
     let mut sum = [0.0f64; 3];
     vdaf::unshard(param(), leader_total, helper_total, &mut decoded);
     filing::add_gradients(&mut sum, first, withdrawn);
-    entry(decoded[0], sum[0], row::same_doubles(&decoded, &sum));
+    entry(
+        writer,
+        decoded[0],
+        sum[0],
+        row::same_doubles(&decoded, &sum),
+    )
 }
 
 // All valves of a controller, from the first key on.
-fn controller(leader: &[u64], helper: &[u64], first: usize)
+fn controller<W: Write>(
+    writer: &mut W,
+    leader: &[u64],
+    helper: &[u64],
+    first: usize,
+) -> io::Result<()>
     requires { first ≤ 12 }
 {
     let mut leader_total = [0u64; 3];
     let mut helper_total = [0u64; 3];
     filing::merge_valves(&mut leader_total, leader, first);
     filing::merge_valves(&mut helper_total, helper, first);
-    totals(&leader_total, &helper_total, first, filing::KEYS);
+    totals(writer, &leader_total, &helper_total, first, filing::KEYS)
 }
 
 // All valves of controller 1, where a key is withdrawn after they were merged.
-pub fn without(leader: &[u64], helper: &[u64], withdrawn: usize)
+pub fn without<W: Write>(
+    writer: &mut W,
+    leader: &[u64],
+    helper: &[u64],
+    withdrawn: usize,
+) -> io::Result<()>
     requires { withdrawn < 24 }
 {
     let mut leader_total = [0u64; 3];
@@ -73,83 +103,107 @@ pub fn without(leader: &[u64], helper: &[u64], withdrawn: usize)
     filing::merge_valves(&mut helper_total, helper, 0);
     filing::unmerge_key(&mut leader_total, leader, withdrawn);
     filing::unmerge_key(&mut helper_total, helper, withdrawn);
-    print::text(b"  ");
-    totals(&leader_total, &helper_total, 0, withdrawn);
-    print::text(b" all valves, without it\n");
+    print::text(writer, b"  ")?;
+    totals(writer, &leader_total, &helper_total, 0, withdrawn)?;
+    print::text(writer, b" all valves, without it\n")
 }
 
 // A key that was filed again.
-pub fn filed_again(leader: &[u64], helper: &[u64], again: usize)
+pub fn filed_again<W: Write>(
+    writer: &mut W,
+    leader: &[u64],
+    helper: &[u64],
+    again: usize,
+) -> io::Result<()>
     requires { again < 24 }
 {
-    print::text(b"  ");
-    key(leader, helper, again);
-    print::text(b" its valve\n");
+    print::text(writer, b"  ")?;
+    key(writer, leader, helper, again)?;
+    print::text(writer, b" its valve\n")
 }
 
 // What is leader of a key.
-pub fn nothing_left(leader: &[u64], helper: &[u64], key: usize)
+pub fn nothing_left<W: Write>(
+    writer: &mut W,
+    leader: &[u64],
+    helper: &[u64],
+    key: usize,
+) -> io::Result<()>
     requires { key < 24 }
 {
     let mut decoded = [0.0f64; 3];
     let nothing = [0.0f64; 3];
     filing::read(leader, helper, key, &mut decoded);
-    print::text(b"  ");
+    print::text(writer, b"  ")?;
     entry(
+        writer,
         decoded[0],
         nothing[0],
         row::same_doubles(&decoded, &nothing),
-    );
-    print::text(b" its valve\n");
+    )?;
+    print::text(writer, b" its valve\n")
 }
 
 // An entry of both files: with what its two bodies begin, which alone is random, and what they give together.
-pub fn bodies(contents: &[u8], leader: &[u64], helper: &[u64], entry: usize)
+pub fn bodies<W: Write>(
+    writer: &mut W,
+    contents: &[u8],
+    leader: &[u64],
+    helper: &[u64],
+    entry: usize,
+) -> io::Result<()>
     requires { entry < 24 }
 {
     let at = entry * DIMENSION;
     if leader.len() <= at {
-        return;
+        return Ok(());
     }
     if helper.len() <= at {
-        return;
+        return Ok(());
     }
     let mut decoded = [0.0f64; 3];
     filing::read(leader, helper, entry, &mut decoded);
-    day_files::address(contents, entry);
-    print::text(b", valve ");
-    print::counted(day_files::valve(contents, entry), b", reports ");
+    day_files::address(writer, contents, entry)?;
+    print::text(writer, b", valve ")?;
+    print::counted(writer, day_files::valve(contents, entry), b", reports ")?;
     print::counted(
+        writer,
         day_files::reports(contents, entry),
         b": its bodies begin with ",
-    );
-    print::element(leader[at]);
-    print::text(b" and ");
-    print::element(helper[at]);
-    print::text(b", together");
-    print::double(decoded[0]);
-    print::text(b"\n");
+    )?;
+    print::element(writer, leader[at])?;
+    print::text(writer, b" and ")?;
+    print::element(writer, helper[at])?;
+    print::text(writer, b", together")?;
+    print::double(writer, decoded[0])?;
+    print::text(writer, b"\n")
 }
 
-fn head(contents: &[u8]) {
+fn head<W: Write>(writer: &mut W, contents: &[u8]) -> io::Result<()> {
     print::text(
+        writer,
         b"coordinate 0 of each sum, and whether all 3 are equal\n      controller 1            controller 2\n      ",
-    );
-    day_files::address(contents, 0);
-    print::text(b"       ");
-    day_files::address(contents, filing::VALVES);
-    print::text(b"\nvalve decoded   true          decoded   true\n");
+    )?;
+    day_files::address(writer, contents, 0)?;
+    print::text(writer, b"       ")?;
+    day_files::address(writer, contents, filing::VALVES)?;
+    print::text(writer, b"\nvalve decoded   true          decoded   true\n")
 }
 
-pub fn print(contents: &[u8], leader: &[u64], helper: &[u64]) {
-    head(contents);
+pub fn print<W: Write>(
+    writer: &mut W,
+    contents: &[u8],
+    leader: &[u64],
+    helper: &[u64],
+) -> io::Result<()> {
+    head(writer, contents)?;
     let mut i = 0;
     while i < filing::VALVES {
-        valve(contents, leader, helper, i);
+        valve(writer, contents, leader, helper, i)?;
         i += 1;
     }
-    print::text(b"  ");
-    controller(leader, helper, 0);
-    controller(leader, helper, filing::VALVES);
-    print::text(b" all valves, merged\n");
+    print::text(writer, b"  ")?;
+    controller(writer, leader, helper, 0)?;
+    controller(writer, leader, helper, filing::VALVES)?;
+    print::text(writer, b" all valves, merged\n")
 }

@@ -4,6 +4,8 @@ ghost use Rattle.std.specs.Prelude.{◌<◌};
 use crate::{filing, print, report};
 use pine::{PineParam, WrTestRule};
 use rules::Answer;
+use std::io;
+use std::io::Write;
 
 // The inputs of report.rt, with the multiplier 1/3 in place of 87/10. Of the two tests one must succeed.
 pub fn param(wr_test_rule: WrTestRule) -> PineParam {
@@ -25,8 +27,8 @@ fn cut(key: usize) -> Answer {
     )
 }
 
-pub fn print(key: usize) {
-    print::outcome(cut(key), b"cut");
+pub fn print<W: Write>(writer: &mut W, key: usize) -> io::Result<()> {
+    print::outcome(writer, cut(key), b"cut")
 }
 
 // 11. Or one test of two is enough: the one that misses is written as zeros, and the servers find the report

@@ -7,33 +7,42 @@ use day_file::FileLen;
 use lines::words::Cursor;
 use lines::{row, words};
 use pine::PineParam;
+use std::io;
+use std::io::Write;
 
 // ---- reading
 
-fn ok_read(out: &mut [u8], at: usize, contents: &[u8], bodies: &[u64]) -> usize {
-    let to = print::text(out, at, b"ok ");
-    let to = bytes::put(out, to, contents);
-    let to = print::text(out, to, b" ");
-    let to = print::elements(out, to, bodies);
-    print::text(out, to, b"\n")
+fn ok_read<W: Write>(
+    writer: &mut W,
+    out: &mut [u8],
+    at: usize,
+    contents: &[u8],
+    bodies: &[u64],
+) -> io::Result<usize> {
+    let to = print::text(writer, out, at, b"ok ")?;
+    let to = bytes::put(writer, out, to, contents)?;
+    let to = print::text(writer, out, to, b" ")?;
+    let to = print::elements(writer, out, to, bodies)?;
+    print::text(writer, out, to, b"\n")
 }
 
-fn answer_read(
+fn answer_read<W: Write>(
     param: PineParam,
+    writer: &mut W,
     out: &mut [u8],
     at: usize,
     file: &[u8],
     contents: &mut [u8],
     bodies: &mut [u64],
-) -> usize {
+) -> io::Result<usize> {
     bytes::fill(contents);
     row::fill(bodies);
     let answer = day_file::file_read(param, file, contents, bodies);
     if answer.number == 0 {
-        ok_read(out, at, contents, bodies)
+        ok_read(writer, out, at, contents, bodies)
     } else {
         let kept = bytes::is_filled(contents) & row::is_filled(bodies);
-        refused_lent(out, at, answer, kept)
+        refused_lent(writer, out, at, answer, kept)
     }
 }
 
@@ -57,36 +66,46 @@ fn read_lens(dimension: u64, file: &[u8]) -> [u64; 2] {
     [contents, (whole - (6 + contents)) / 8]
 }
 
-fn read_of(
+fn read_of<W: Write>(
     param: PineParam,
     line: &[u8],
     c: Cursor,
+    writer: &mut W,
     out: &mut [u8],
     at: usize,
     file: &[u8],
     contents: &mut [u8],
     bodies: &mut [u64],
-) -> usize {
+) -> io::Result<usize> {
     let lens = lens_of(param, false);
     let derived = read_lens(lens.dimension, file);
     let lent = lent_rows(line, c, derived, contents.len(), bodies.len());
     if !lent.ok {
-        return bad(out, at);
+        return bad(writer, out, at);
     }
     let n = lent.first;
     let m = lent.second;
-    answer_read(param, out, at, file, &mut contents[0..n], &mut bodies[0..m])
+    answer_read(
+        param,
+        writer,
+        out,
+        at,
+        file,
+        &mut contents[0..n],
+        &mut bodies[0..m],
+    )
 }
 
-fn read_in(
+fn read_in<W: Write>(
     line: &[u8],
     c: Cursor,
+    writer: &mut W,
     out: &mut [u8],
     at: usize,
     file: &mut [u8],
     contents: &mut [u8],
     bodies: &mut [u64],
-) -> usize {
+) -> io::Result<usize> {
     let read = read_param(line, c);
     let file_row = words::bytes(line, read.next, file);
     let n = file_row.len;
@@ -94,6 +113,7 @@ fn read_in(
         read.param,
         line,
         file_row.next,
+        writer,
         out,
         at,
         &file[0..n],
@@ -102,48 +122,65 @@ fn read_in(
     )
 }
 
-pub fn read(line: &[u8], c: Cursor, out: &mut [u8], at: usize) -> usize {
+pub fn read<W: Write>(
+    line: &[u8],
+    c: Cursor,
+    writer: &mut W,
+    out: &mut [u8],
+    at: usize,
+) -> io::Result<usize> {
     let mut file = [0u8; 262144];
     let mut contents = [0u8; 262144];
     let mut bodies = [0u64; 32768];
-    read_in(line, c, out, at, &mut file, &mut contents, &mut bodies)
+    read_in(
+        line,
+        c,
+        writer,
+        out,
+        at,
+        &mut file,
+        &mut contents,
+        &mut bodies,
+    )
 }
 
 // ---- writing
 
-fn ok_bytes(out: &mut [u8], at: usize, row: &[u8]) -> usize {
-    let to = print::text(out, at, b"ok ");
-    let to = bytes::put(out, to, row);
-    print::text(out, to, b"\n")
+fn ok_bytes<W: Write>(writer: &mut W, out: &mut [u8], at: usize, row: &[u8]) -> io::Result<usize> {
+    let to = print::text(writer, out, at, b"ok ")?;
+    let to = bytes::put(writer, out, to, row)?;
+    print::text(writer, out, to, b"\n")
 }
 
-fn answer_write(
+fn answer_write<W: Write>(
     param: PineParam,
     count: u64,
+    writer: &mut W,
     out: &mut [u8],
     at: usize,
     contents: &[u8],
     bodies: &[u64],
     file: &mut [u8],
-) -> usize {
+) -> io::Result<usize> {
     bytes::fill(file);
     let answer = day_file::file_write(param, count, contents, bodies, file);
     if answer.number == 0 {
-        ok_bytes(out, at, file)
+        ok_bytes(writer, out, at, file)
     } else {
-        refused_lent(out, at, answer, bytes::is_filled(file))
+        refused_lent(writer, out, at, answer, bytes::is_filled(file))
     }
 }
 
-fn write_in(
+fn write_in<W: Write>(
     line: &[u8],
     c: Cursor,
+    writer: &mut W,
     out: &mut [u8],
     at: usize,
     contents: &mut [u8],
     bodies: &mut [u64],
     file: &mut [u8],
-) -> usize {
+) -> io::Result<usize> {
     let read = read_param(line, c);
     let count = words::decimal(line, read.next);
     let contents_row = words::bytes(line, count.next, contents);
@@ -152,7 +189,7 @@ fn write_in(
     let derived = file_len(lens.dimension, count.value);
     let lent = lent_row(line, bodies_row.next, derived, file.len());
     if !lent.ok {
-        return bad(out, at);
+        return bad(writer, out, at);
     }
     let n = contents_row.len;
     let m = bodies_row.len;
@@ -160,6 +197,7 @@ fn write_in(
     answer_write(
         read.param,
         count.value,
+        writer,
         out,
         at,
         &contents[0..n],
@@ -168,85 +206,136 @@ fn write_in(
     )
 }
 
-pub fn write(line: &[u8], c: Cursor, out: &mut [u8], at: usize) -> usize {
+pub fn write<W: Write>(
+    line: &[u8],
+    c: Cursor,
+    writer: &mut W,
+    out: &mut [u8],
+    at: usize,
+) -> io::Result<usize> {
     let mut contents = [0u8; 262144];
     let mut bodies = [0u64; 32768];
     let mut file = [0u8; 262144];
-    write_in(line, c, out, at, &mut contents, &mut bodies, &mut file)
+    write_in(
+        line,
+        c,
+        writer,
+        out,
+        at,
+        &mut contents,
+        &mut bodies,
+        &mut file,
+    )
 }
 
 // ---- lengths
 
-fn answer_len(out: &mut [u8], at: usize, given: FileLen) -> usize {
+fn answer_len<W: Write>(
+    writer: &mut W,
+    out: &mut [u8],
+    at: usize,
+    given: FileLen,
+) -> io::Result<usize> {
     let answer = given.answer;
     if answer.number != 0 {
-        return refused(out, at, answer);
+        return refused(writer, out, at, answer);
     }
-    let to = print::decimal(out, at, b"ok ", given.len);
-    print::text(out, to, b"\n")
+    let to = print::decimal(writer, out, at, b"ok ", given.len)?;
+    print::text(writer, out, to, b"\n")
 }
 
-pub fn max(line: &[u8], c: Cursor, out: &mut [u8], at: usize) -> usize {
+pub fn max<W: Write>(
+    line: &[u8],
+    c: Cursor,
+    writer: &mut W,
+    out: &mut [u8],
+    at: usize,
+) -> io::Result<usize> {
     let read = read_param(line, c);
     let reports = words::decimal(line, read.next);
     let n = reports.value;
     if !words::ends(line, reports.next) {
-        return bad(out, at);
+        return bad(writer, out, at);
     }
     if 4294967295 < n {
-        return bad(out, at);
+        return bad(writer, out, at);
     }
-    answer_len(out, at, day_file::file_max(read.param, n as u32))
+    answer_len(writer, out, at, day_file::file_max(read.param, n as u32))
 }
 
-fn size_in(line: &[u8], c: Cursor, out: &mut [u8], at: usize, keys: &mut [u8]) -> usize {
+fn size_in<W: Write>(
+    line: &[u8],
+    c: Cursor,
+    writer: &mut W,
+    out: &mut [u8],
+    at: usize,
+    keys: &mut [u8],
+) -> io::Result<usize> {
     let read = read_param(line, c);
     let keys_row = words::bytes(line, read.next, keys);
     if !words::ends(line, keys_row.next) {
-        return bad(out, at);
+        return bad(writer, out, at);
     }
     let n = keys_row.len;
-    answer_len(out, at, file_size::file_size(read.param, &keys[0..n]))
+    answer_len(
+        writer,
+        out,
+        at,
+        file_size::file_size(read.param, &keys[0..n]),
+    )
 }
 
-pub fn size(line: &[u8], c: Cursor, out: &mut [u8], at: usize) -> usize {
+pub fn size<W: Write>(
+    line: &[u8],
+    c: Cursor,
+    writer: &mut W,
+    out: &mut [u8],
+    at: usize,
+) -> io::Result<usize> {
     let mut keys = [0u8; 262144];
-    size_in(line, c, out, at, &mut keys)
+    size_in(line, c, writer, out, at, &mut keys)
 }
 
 // ---- adding
 
 // The new file, where the bytes past it are as they were.
-fn ok_added(out: &mut [u8], at: usize, len: u64, second: &[u8]) -> usize {
+fn ok_added<W: Write>(
+    writer: &mut W,
+    out: &mut [u8],
+    at: usize,
+    len: u64,
+    second: &[u8],
+) -> io::Result<usize> {
     if (second.len() as u64) < len {
-        return print::text(out, at, b"changed\n");
+        return print::text(writer, out, at, b"changed\n");
     }
     let n = len as usize;
     if !bytes::is_filled(&second[n..]) {
-        return print::text(out, at, b"changed\n");
+        return print::text(writer, out, at, b"changed\n");
     }
-    let to = print::decimal(out, at, b"ok ", len);
-    let to = print::text(out, to, b" ");
-    let to = bytes::put(out, to, &second[0..n]);
-    print::text(out, to, b"\n")
+    let to = print::decimal(writer, out, at, b"ok ", len)?;
+    let to = print::text(writer, out, to, b" ")?;
+    let to = bytes::put(writer, out, to, &second[0..n])?;
+    print::text(writer, out, to, b"\n")
 }
 
-fn answer_add(
+fn answer_add<W: Write>(
     param: PineParam,
     key: [u8; 8],
+    writer: &mut W,
     out: &mut [u8],
     at: usize,
     old: &[u8],
     share: &[u64],
     second: &mut [u8],
-) -> usize {
+) -> io::Result<usize> {
     bytes::fill(second);
     let added = file_add::file_add(param, key, old, share, second);
     let answer = added.answer;
     if answer.number == 0 {
-        ok_added(out, at, added.len, second)
+        ok_added(writer, out, at, added.len, second)
     } else {
-        refused_lent(out, at, answer, bytes::is_filled(second))
+        refused_lent(writer, out, at, answer, bytes::is_filled(second))
     }
 }
 
@@ -261,17 +350,18 @@ fn second_len(dimension: u64, old: u64) -> u64 {
     old + (12 + 8 * dimension)
 }
 
-fn add_of(
+fn add_of<W: Write>(
     param: PineParam,
     key: [u8; 8],
     line: &[u8],
     c: Cursor,
+    writer: &mut W,
     out: &mut [u8],
     at: usize,
     old: &mut [u8],
     share: &mut [u64],
     second: &mut [u8],
-) -> usize {
+) -> io::Result<usize> {
     let old_row = words::bytes(line, c, old);
     let share_row = words::elements(line, old_row.next, share);
     let lens = lens_of(param, false);
@@ -279,13 +369,14 @@ fn add_of(
     let derived = second_len(lens.dimension, n as u64);
     let lent = lent_row(line, share_row.next, derived, second.len());
     if !lent.ok {
-        return bad(out, at);
+        return bad(writer, out, at);
     }
     let m = share_row.len;
     let l = lent.len;
     answer_add(
         param,
         key,
+        writer,
         out,
         at,
         &old[0..n],
@@ -294,26 +385,28 @@ fn add_of(
     )
 }
 
-fn add_in(
+fn add_in<W: Write>(
     line: &[u8],
     c: Cursor,
+    writer: &mut W,
     out: &mut [u8],
     at: usize,
     old: &mut [u8],
     share: &mut [u64],
     second: &mut [u8],
-) -> usize {
+) -> io::Result<usize> {
     let read = read_param(line, c);
     let mut key = [0u8; 8];
     let key_row = words::bytes(line, read.next, &mut key);
     if key_row.len != 8 {
-        return bad(out, at);
+        return bad(writer, out, at);
     }
     add_of(
         read.param,
         key,
         line,
         key_row.next,
+        writer,
         out,
         at,
         old,
@@ -322,9 +415,15 @@ fn add_in(
     )
 }
 
-pub fn add(line: &[u8], c: Cursor, out: &mut [u8], at: usize) -> usize {
+pub fn add<W: Write>(
+    line: &[u8],
+    c: Cursor,
+    writer: &mut W,
+    out: &mut [u8],
+    at: usize,
+) -> io::Result<usize> {
     let mut old = [0u8; 262144];
     let mut share = [0u64; 32768];
     let mut second = [0u8; 262144];
-    add_in(line, c, out, at, &mut old, &mut share, &mut second)
+    add_in(line, c, writer, out, at, &mut old, &mut share, &mut second)
 }

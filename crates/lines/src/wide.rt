@@ -103,7 +103,7 @@ fn row_of_pairs(s: &[u8], c: Cursor, row: &mut [u64]) -> Row
     let w = words::next_word(s, c);
     let start = w.start;
     let end = w.end;
-    if &s[start..end] == b"words" {
+    if &s[start..end] == b"words".as_slice() {
         return words::elements(s, c.past(end, true), row);
     }
     pairs(s, c, row)

@@ -278,7 +278,7 @@ pub fn bytes(s: &[u8], c: Cursor, row: &mut [u8]) -> Row
             next: c.past(end, false),
         };
     }
-    let paired = 0 < len && digits.len() % 2 == 0 || digits == b"-";
+    let paired = 0 < len && digits.len() % 2 == 0 || digits == b"-".as_slice();
     let ok = fill_bytes(digits, row, len);
     Row {
         len,
@@ -297,7 +297,7 @@ pub fn ends(s: &[u8], c: Cursor) -> bool {
     let w = next_word(s, c);
     let start = w.start;
     let end = w.end;
-    c.ok & (start == end || &s[start..end] == b"out")
+    c.ok & (start == end || &s[start..end] == b"out".as_slice())
 }
 
 fn fill_lens(s: &[u8], c: Cursor, lens: &mut [u64]) -> bool {
@@ -324,7 +324,7 @@ pub fn ends_with_lens(s: &[u8], c: Cursor, lens: &mut [u64]) -> bool {
     if start == end {
         return c.ok;
     }
-    if &s[start..end] == b"out" {
+    if &s[start..end] == b"out".as_slice() {
         fill_lens(s, c.past(end, true), lens)
     } else {
         false

@@ -3,24 +3,25 @@
 
 ghost use Rattle.std.specs.Prelude.{◌≡◌, length};
 
-use libc::{STDIN_FILENO, STDOUT_FILENO};
+use std::io;
+use std::io::{Read, Write};
 
 // More bytes than the text of a load can have (`long_nothing`, load_report/proofs/Reported.antt): where the input has more, both
 // it and these are other text.
-const TEXT: usize = 256;
+const TEXT: u64 = 256;
 
 // Writes the report of a text, with a row that has room for it.
-fn answer(text: &[u8], out: &mut [u8])
+fn answer<W: Write>(writer: &mut W, text: &[u8], out: &mut [u8]) -> io::Result<()>
     requires { length out.old ≡ 15744 }
 {
     let n = load_report::report_len(text);
     load_report::write_report(text, &mut out[..n]);
-    io::write_all(STDOUT_FILENO, &out[..n]);
+    writer.write_all(&out[..n])
 }
 
-fn main() {
-    let mut text = [0u8; TEXT];
+fn main(rt: HostRuntime) -> io::Result<()> {
+    let mut text = Vec::new(rt.alloc());
     let mut out = [0u8; load_report::MAX_REPORT_LEN];
-    let n = io::read_full(STDIN_FILENO, &mut text);
-    answer(&text[..n], &mut out);
+    rt.reader().take(TEXT).read_to_end(&mut text)?;
+    answer(&mut io::writer(&rt), text.as_slice(), &mut out)
 }

@@ -4,18 +4,27 @@ use case_inputs::{bytes, lens_of, lent_row, lent_three, read_param};
 use lines::words::Cursor;
 use lines::{row, words};
 use pine::PineParam;
+use std::io;
+use std::io::Write;
 
 // The bytes of the two seeds that are given.
 const GIVEN: u64 = 32;
 
-fn ok_cut(out: &mut [u8], at: usize, leader: &[u64], helper: &[u64], given: &[u8]) -> usize {
-    let to = print::text(out, at, b"ok ");
-    let to = print::elements(out, to, leader);
-    let to = print::text(out, to, b" ");
-    let to = print::elements(out, to, helper);
-    let to = print::text(out, to, b" ");
-    let to = bytes::put(out, to, given);
-    print::text(out, to, b"\n")
+fn ok_cut<W: Write>(
+    writer: &mut W,
+    out: &mut [u8],
+    at: usize,
+    leader: &[u64],
+    helper: &[u64],
+    given: &[u8],
+) -> io::Result<usize> {
+    let to = print::text(writer, out, at, b"ok ")?;
+    let to = print::elements(writer, out, to, leader)?;
+    let to = print::text(writer, out, to, b" ")?;
+    let to = print::elements(writer, out, to, helper)?;
+    let to = print::text(writer, out, to, b" ")?;
+    let to = bytes::put(writer, out, to, given)?;
+    print::text(writer, out, to, b"\n")
 }
 
 fn fill(leader: &mut [u64], helper: &mut [u64], given: &mut [u8]) {
@@ -28,8 +37,9 @@ fn are_filled(leader: &[u64], helper: &[u64], given: &[u8]) -> bool {
     row::is_filled(leader) & row::is_filled(helper) & bytes::is_filled(given)
 }
 
-fn answer_cut(
+fn answer_cut<W: Write>(
     param: PineParam,
+    writer: &mut W,
     out: &mut [u8],
     at: usize,
     gradient: &[f64],
@@ -38,20 +48,21 @@ fn answer_cut(
     leader: &mut [u64],
     helper: &mut [u64],
     given: &mut [u8],
-) -> usize {
+) -> io::Result<usize> {
     fill(leader, helper, given);
     let answer = cut::cut(param, gradient, nonce, seeds, leader, helper, given);
     if answer.number == 0 {
-        ok_cut(out, at, leader, helper, given)
+        ok_cut(writer, out, at, leader, helper, given)
     } else {
-        refused_lent(out, at, answer, are_filled(leader, helper, given))
+        refused_lent(writer, out, at, answer, are_filled(leader, helper, given))
     }
 }
 
 // Cuts what was read. The line goes on with the lengths of the rows that are lent, or ends.
-fn cut_rows(
+fn cut_rows<W: Write>(
     line: &[u8],
     c: Cursor,
+    writer: &mut W,
     out: &mut [u8],
     at: usize,
     param: PineParam,
@@ -61,18 +72,19 @@ fn cut_rows(
     leader: &mut [u64],
     helper: &mut [u64],
     given: &mut [u8],
-) -> usize {
+) -> io::Result<usize> {
     let len = lens_of(param, false).measurement;
     let derived = [len, len, GIVEN];
     let lent = lent_three(line, c, derived, leader.len(), helper.len(), given.len());
     if !lent.ok {
-        return bad(out, at);
+        return bad(writer, out, at);
     }
     let l = lent.first;
     let h = lent.second;
     let g = lent.third;
     answer_cut(
         param,
+        writer,
         out,
         at,
         gradient,
@@ -84,9 +96,10 @@ fn cut_rows(
     )
 }
 
-fn cut_in(
+fn cut_in<W: Write>(
     line: &[u8],
     c: Cursor,
+    writer: &mut W,
     out: &mut [u8],
     at: usize,
     gradient: &mut [f64],
@@ -95,7 +108,7 @@ fn cut_in(
     leader: &mut [u64],
     helper: &mut [u64],
     given: &mut [u8],
-) -> usize {
+) -> io::Result<usize> {
     let read = read_param(line, c);
     let gradient_row = words::doubles(line, read.next, gradient);
     let nonce_row = words::bytes(line, gradient_row.next, nonce);
@@ -106,6 +119,7 @@ fn cut_in(
     cut_rows(
         line,
         seeds_row.next,
+        writer,
         out,
         at,
         read.param,
@@ -118,7 +132,13 @@ fn cut_in(
     )
 }
 
-pub fn cut(line: &[u8], c: Cursor, out: &mut [u8], at: usize) -> usize {
+pub fn cut<W: Write>(
+    line: &[u8],
+    c: Cursor,
+    writer: &mut W,
+    out: &mut [u8],
+    at: usize,
+) -> io::Result<usize> {
     let mut gradient = [0.0f64; 8192];
     let mut nonce = [0u8; 262144];
     let mut seeds = [0u8; 262144];
@@ -128,6 +148,7 @@ pub fn cut(line: &[u8], c: Cursor, out: &mut [u8], at: usize) -> usize {
     cut_in(
         line,
         c,
+        writer,
         out,
         at,
         &mut gradient,
@@ -139,44 +160,52 @@ pub fn cut(line: &[u8], c: Cursor, out: &mut [u8], at: usize) -> usize {
     )
 }
 
-fn answer_sample(
+fn answer_sample<W: Write>(
     param: PineParam,
+    writer: &mut W,
     out: &mut [u8],
     at: usize,
     stream: &[u8],
     share: &mut [u64],
-) -> usize {
+) -> io::Result<usize> {
     row::fill(share);
     let answer = sampler::sample(param, stream, share);
     if answer.number == 0 {
-        ok_elements(out, at, share, false)
+        ok_elements(writer, out, at, share, false)
     } else {
-        refused_lent(out, at, answer, row::is_filled(share))
+        refused_lent(writer, out, at, answer, row::is_filled(share))
     }
 }
 
-fn sample_in(
+fn sample_in<W: Write>(
     line: &[u8],
     c: Cursor,
+    writer: &mut W,
     out: &mut [u8],
     at: usize,
     stream: &mut [u8],
     share: &mut [u64],
-) -> usize {
+) -> io::Result<usize> {
     let read = read_param(line, c);
     let stream_row = words::bytes(line, read.next, stream);
     let lens = lens_of(read.param, false);
     let lent = lent_row(line, stream_row.next, lens.measurement, share.len());
     if !lent.ok {
-        return bad(out, at);
+        return bad(writer, out, at);
     }
     let s = stream_row.len;
     let n = lent.len;
-    answer_sample(read.param, out, at, &stream[0..s], &mut share[0..n])
+    answer_sample(read.param, writer, out, at, &stream[0..s], &mut share[0..n])
 }
 
-pub fn sample(line: &[u8], c: Cursor, out: &mut [u8], at: usize) -> usize {
+pub fn sample<W: Write>(
+    line: &[u8],
+    c: Cursor,
+    writer: &mut W,
+    out: &mut [u8],
+    at: usize,
+) -> io::Result<usize> {
     let mut stream = [0u8; 262144];
     let mut share = [0u64; 16384];
-    sample_in(line, c, out, at, &mut stream, &mut share)
+    sample_in(line, c, writer, out, at, &mut stream, &mut share)
 }

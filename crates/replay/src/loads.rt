@@ -3,51 +3,67 @@ use answers::{bad, print, refused_lent};
 use case_inputs::{bytes, lent_row};
 use lines::words;
 use lines::words::Cursor;
+use std::io;
+use std::io::Write;
 
-fn answer_load(text: &[u8], report: &mut [u8], out: &mut [u8], at: usize) -> usize {
+fn answer_load<W: Write>(
+    text: &[u8],
+    report: &mut [u8],
+    writer: &mut W,
+    out: &mut [u8],
+    at: usize,
+) -> io::Result<usize> {
     bytes::fill(report);
     let answer = load_report::write_report(text, report);
     if answer.number == 0 {
-        let to = print::text(out, at, b"ok ");
-        let to = bytes::put(out, to, report);
-        print::text(out, to, b"\n")
+        let to = print::text(writer, out, at, b"ok ")?;
+        let to = bytes::put(writer, out, to, report)?;
+        print::text(writer, out, to, b"\n")
     } else {
-        refused_lent(out, at, answer, bytes::is_filled(report))
+        refused_lent(writer, out, at, answer, bytes::is_filled(report))
     }
 }
 
-fn load_of(
+fn load_of<W: Write>(
     line: &[u8],
     c: Cursor,
+    writer: &mut W,
     out: &mut [u8],
     at: usize,
     text: &[u8],
     report: &mut [u8],
-) -> usize {
+) -> io::Result<usize> {
     let derived = load_report::report_len(text) as u64;
     let lent = lent_row(line, c, derived, report.len());
     if !lent.ok {
-        return bad(out, at);
+        return bad(writer, out, at);
     }
     let n = lent.len;
-    answer_load(text, &mut report[0..n], out, at)
+    answer_load(text, &mut report[0..n], writer, out, at)
 }
 
-fn load_in(
+fn load_in<W: Write>(
     line: &[u8],
     c: Cursor,
+    writer: &mut W,
     out: &mut [u8],
     at: usize,
     text: &mut [u8],
     report: &mut [u8],
-) -> usize {
+) -> io::Result<usize> {
     let text_row = words::bytes(line, c, text);
     let n = text_row.len;
-    load_of(line, text_row.next, out, at, &text[0..n], report)
+    load_of(line, text_row.next, writer, out, at, &text[0..n], report)
 }
 
-pub fn load(line: &[u8], c: Cursor, out: &mut [u8], at: usize) -> usize {
+pub fn load<W: Write>(
+    line: &[u8],
+    c: Cursor,
+    writer: &mut W,
+    out: &mut [u8],
+    at: usize,
+) -> io::Result<usize> {
     let mut text = [0u8; 262144];
     let mut report = [0u8; load_report::MAX_REPORT_LEN];
-    load_in(line, c, out, at, &mut text, &mut report)
+    load_in(line, c, writer, out, at, &mut text, &mut report)
 }

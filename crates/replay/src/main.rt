@@ -3,13 +3,14 @@
 #![tactic(auto)]
 
 use answers::print;
-use libc::STDIN_FILENO;
+use std::io;
+use std::io::{Read, Write};
 
 mod cases;
 mod cuts;
 mod loads;
 
-ghost use Rattle.std.specs.Prelude.{◌≡◌, ◌≤◌, length};
+ghost use Rattle.std.specs.Prelude.{◌≡◌, ◌≤◌, length, IfOk};
 
 // How far the input is read.
 #[derive(Clone, Copy)]
@@ -34,13 +35,12 @@ struct Answered {
 }
 
 // Reads once, behind the bytes that the buffer has, and answers how many it has then.
-fn read_more(input: &mut [u8], have: usize) -> usize
+fn read_more<R: Read>(reader: &mut R, input: &mut [u8], have: usize) -> io::Result<usize>
     requires { have ≤ length input.old }
-    ensures { (have ≤ result) × (result ≤ length input.new) }
+    ensures { IfOk result (λ n. (have ≤ n) × (n ≤ length input.new)) }
 {
-    let got = libc::read(STDIN_FILENO, &mut input[have..]);
-    let free = &input[have..];
-    have + io::count(got, free)
+    let got = reader.read(&mut input[have..])?;
+    Ok(have + got)
 }
 
 // Moves the bytes from start to end to the front of the buffer.
@@ -70,85 +70,108 @@ fn line_end(input: &[u8], from: usize, have: usize) -> usize
 }
 
 // Answers a line, unless it is the rest of one that is too long.
-fn answer_unless(skipping: bool, line: &[u8], out: &mut [u8], at: usize) -> usize {
+fn answer_unless<W: Write>(
+    skipping: bool,
+    line: &[u8],
+    writer: &mut W,
+    out: &mut [u8],
+    at: usize,
+) -> io::Result<usize> {
     if skipping {
-        at
+        Ok(at)
     } else {
-        cases::answer(line, out, at)
+        cases::answer(line, writer, out, at)
     }
 }
 
 // Answers each line that ends among the bytes from progress.have to have: none ends before them.
-fn answer_lines(input: &[u8], progress: Progress, have: usize, out: &mut [u8]) -> Answered
+fn answer_lines<W: Write>(
+    input: &[u8],
+    progress: Progress,
+    have: usize,
+    writer: &mut W,
+    out: &mut [u8],
+) -> io::Result<Answered>
     requires { (progress.have ≤ have) × (have ≤ length input.now) }
-    ensures { result.start ≤ have }
+    ensures { IfOk result (λ answered. answered.start ≤ have) }
 {
     let mut start = 0;
     let mut skipping = progress.skipping;
     let mut at = progress.at;
     let mut end = line_end(input, progress.have, have);
     while end < have {
-        at = answer_unless(skipping, &input[start..end], out, at);
+        at = answer_unless(skipping, &input[start..end], writer, out, at)?;
         skipping = false;
         start = end + 1;
         end = line_end(input, start, have);
     }
-    Answered {
+    Ok(Answered {
         start,
         skipping,
         at,
-    }
+    })
 }
 
 // A line fills the whole buffer: it is answered at once, and what follows of it is skipped.
-fn too_long(answered: Answered, out: &mut [u8]) -> Progress
-    ensures { result.have ≡ 0 }
+fn too_long<W: Write>(answered: Answered, writer: &mut W, out: &mut [u8]) -> io::Result<Progress>
+    ensures { IfOk result (λ progress. progress.have ≡ 0) }
 {
     let at = if answered.skipping {
         answered.at
     } else {
-        answers::bad(out, answered.at)
+        answers::bad(writer, out, answered.at)?
     };
-    Progress {
+    Ok(Progress {
         have: 0,
         skipping: true,
         at,
         more: true,
-    }
+    })
 }
 
 // Reads once, and answers each line that has its end then.
-fn turn(input: &mut [u8], out: &mut [u8], progress: Progress) -> Progress
+fn turn<R: Read, W: Write>(
+    reader: &mut R,
+    writer: &mut W,
+    input: &mut [u8],
+    out: &mut [u8],
+    progress: Progress,
+) -> io::Result<Progress>
     requires { progress.have ≤ length input.old }
-    ensures { result.have ≤ length input.new }
+    ensures { IfOk result (λ next. next.have ≤ length input.new) }
 {
     let had = progress.have;
-    let have = read_more(input, had);
+    let have = read_more(reader, input, had)?;
     if have == had {
-        return Progress {
+        return Ok(Progress {
             have: 0,
             skipping: false,
-            at: answer_unless(progress.skipping, &input[0..have], out, progress.at),
+            at: answer_unless(progress.skipping, &input[0..have], writer, out, progress.at)?,
             more: false,
-        };
+        });
     }
-    let answered = answer_lines(input, progress, have, out);
+    let answered = answer_lines(input, progress, have, writer, out)?;
     let start = answered.start;
     if have - start == input.len() {
-        return too_long(answered, out);
+        return too_long(answered, writer, out);
     }
     move_down(input, start, have);
-    Progress {
+    Ok(Progress {
         have: have - start,
         skipping: answered.skipping,
         at: answered.at,
         more: true,
-    }
+    })
 }
 
 // A proved loop has to end, and nothing says that the input does. So the loop counts its turns down,
 // from a number that no run uses up.
-fn replay(input: &mut [u8], out: &mut [u8]) {
+fn replay<R: Read, W: Write>(
+    reader: &mut R,
+    writer: &mut W,
+    input: &mut [u8],
+    out: &mut [u8],
+) -> io::Result<()> {
     let mut progress = Progress {
         have: 0,
         skipping: false,
@@ -157,15 +180,15 @@ fn replay(input: &mut [u8], out: &mut [u8]) {
     };
     let mut turns = u64::MAX;
     while turns > 0 && progress.more {
-        progress = turn(input, out, progress);
+        progress = turn(reader, writer, input, out, progress)?;
         turns -= 1;
     }
-    print::flush(out, progress.at);
+    print::flush(writer, out, progress.at)
 }
 
 // A line is answered where it and its newline fit the input buffer.
-fn main() {
+fn main(rt: HostRuntime) -> io::Result<()> {
     let mut input = [0u8; 1048576];
     let mut out = [0u8; 65536];
-    replay(&mut input, &mut out);
+    replay(&mut rt.reader(), &mut io::writer(&rt), &mut input, &mut out)
 }

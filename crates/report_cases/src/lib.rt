@@ -9,6 +9,8 @@ use lines::words::Cursor;
 use lines::{row, words};
 use pine::PineParam;
 use rules::Answer;
+use std::io;
+use std::io::Write;
 
 fn make_encode(
     seeded: bool,
@@ -28,32 +30,34 @@ fn make_encode(
     encode::encode_with_wr_joint_rand(param, gradient, bytes, measurement, results)
 }
 
-fn answer_encode(
+fn answer_encode<W: Write>(
     seeded: bool,
     wide: bool,
     param: PineParam,
+    writer: &mut W,
     out: &mut [u8],
     at: usize,
     gradient: &[f64],
     bytes: &[u8],
     measurement: &mut [u64],
     results: &mut [u64],
-) -> usize {
+) -> io::Result<usize> {
     row::fill(measurement);
     row::fill(results);
     let answer = make_encode(seeded, wide, param, gradient, bytes, measurement, results);
     if answer.number == 0 {
-        ok_two_rows(out, at, measurement, results, wide)
+        ok_two_rows(writer, out, at, measurement, results, wide)
     } else {
         let kept = row::is_filled(measurement) & row::is_filled(results);
-        refused_lent(out, at, answer, kept)
+        refused_lent(writer, out, at, answer, kept)
     }
 }
 
 // Encodes what was read. The line goes on with the lengths of the rows that are lent, or ends.
-fn encode_rows(
+fn encode_rows<W: Write>(
     line: &[u8],
     c: Cursor,
+    writer: &mut W,
     out: &mut [u8],
     at: usize,
     seeded: bool,
@@ -63,7 +67,7 @@ fn encode_rows(
     bytes: &[u8],
     measurement: &mut [u64],
     results: &mut [u64],
-) -> usize {
+) -> io::Result<usize> {
     let lens = lens_of(param, wide);
     let lent = lent_rows(
         line,
@@ -73,7 +77,7 @@ fn encode_rows(
         results.len(),
     );
     if !lent.ok {
-        return bad(out, at);
+        return bad(writer, out, at);
     }
     let m = lent.first;
     let t = lent.second;
@@ -81,6 +85,7 @@ fn encode_rows(
         seeded,
         wide,
         param,
+        writer,
         out,
         at,
         gradient,
@@ -90,9 +95,10 @@ fn encode_rows(
     )
 }
 
-fn encode_in(
+fn encode_in<W: Write>(
     line: &[u8],
     c: Cursor,
+    writer: &mut W,
     out: &mut [u8],
     at: usize,
     seeded: bool,
@@ -101,7 +107,7 @@ fn encode_in(
     bytes: &mut [u8],
     measurement: &mut [u64],
     results: &mut [u64],
-) -> usize {
+) -> io::Result<usize> {
     let read = read_param(line, c);
     let gradient_row = words::doubles(line, read.next, gradient);
     let bytes_row = words::bytes(line, gradient_row.next, bytes);
@@ -110,6 +116,7 @@ fn encode_in(
     encode_rows(
         line,
         bytes_row.next,
+        writer,
         out,
         at,
         seeded,
@@ -122,14 +129,15 @@ fn encode_in(
     )
 }
 
-pub fn encode(
+pub fn encode<W: Write>(
     line: &[u8],
     c: Cursor,
+    writer: &mut W,
     out: &mut [u8],
     at: usize,
     seeded: bool,
     wide: bool,
-) -> usize {
+) -> io::Result<usize> {
     let mut gradient = [0.0f64; 8192];
     let mut bytes = [0u8; 262144];
     let mut measurement = [0u64; 32768];
@@ -137,6 +145,7 @@ pub fn encode(
     encode_in(
         line,
         c,
+        writer,
         out,
         at,
         seeded,
@@ -165,28 +174,30 @@ fn make_wrtests(
     wr_tests::run_wr_tests(param, gradient, bytes, results)
 }
 
-fn answer_wrtests(
+fn answer_wrtests<W: Write>(
     seeded: bool,
     wide: bool,
     param: PineParam,
+    writer: &mut W,
     out: &mut [u8],
     at: usize,
     gradient: &[u64],
     bytes: &[u8],
     results: &mut [u64],
-) -> usize {
+) -> io::Result<usize> {
     row::fill(results);
     let answer = make_wrtests(seeded, wide, param, gradient, bytes, results);
     if answer.number == 0 {
-        ok_elements(out, at, results, wide)
+        ok_elements(writer, out, at, results, wide)
     } else {
-        refused_lent(out, at, answer, row::is_filled(results))
+        refused_lent(writer, out, at, answer, row::is_filled(results))
     }
 }
 
-fn wrtests_in(
+fn wrtests_in<W: Write>(
     line: &[u8],
     c: Cursor,
+    writer: &mut W,
     out: &mut [u8],
     at: usize,
     seeded: bool,
@@ -194,14 +205,14 @@ fn wrtests_in(
     gradient: &mut [u64],
     bytes: &mut [u8],
     results: &mut [u64],
-) -> usize {
+) -> io::Result<usize> {
     let read = read_param(line, c);
     let gradient_row = elements(line, read.next, gradient, wide);
     let bytes_row = words::bytes(line, gradient_row.next, bytes);
     let lens = lens_of(read.param, wide);
     let lent = lent_row(line, bytes_row.next, lens.results, results.len());
     if !lent.ok {
-        return bad(out, at);
+        return bad(writer, out, at);
     }
     let n = gradient_row.len;
     let s = bytes_row.len;
@@ -210,6 +221,7 @@ fn wrtests_in(
         seeded,
         wide,
         read.param,
+        writer,
         out,
         at,
         &gradient[0..n],
@@ -218,20 +230,22 @@ fn wrtests_in(
     )
 }
 
-pub fn wrtests(
+pub fn wrtests<W: Write>(
     line: &[u8],
     c: Cursor,
+    writer: &mut W,
     out: &mut [u8],
     at: usize,
     seeded: bool,
     wide: bool,
-) -> usize {
+) -> io::Result<usize> {
     let mut gradient = [0u64; 16384];
     let mut bytes = [0u8; 262144];
     let mut results = [0u64; 16384];
     wrtests_in(
         line,
         c,
+        writer,
         out,
         at,
         seeded,

@@ -6,6 +6,8 @@ use lines::words::Cursor;
 use lines::{row, words};
 use pine::PineParam;
 use rules::Answer;
+use std::io;
+use std::io::Write;
 
 // An answer, and whether the aggregate was left as it was.
 #[derive(Clone, Copy)]
@@ -61,18 +63,26 @@ fn add(
     }
 }
 
-fn answer_sum(out: &mut [u8], at: usize, sum: Sum, agg: &[u64], wide: bool) -> usize {
+fn answer_sum<W: Write>(
+    writer: &mut W,
+    out: &mut [u8],
+    at: usize,
+    sum: Sum,
+    agg: &[u64],
+    wide: bool,
+) -> io::Result<usize> {
     let answer = sum.answer;
     if answer.number == 0 {
-        ok_elements(out, at, agg, wide)
+        ok_elements(writer, out, at, agg, wide)
     } else {
-        refused_lent(out, at, answer, sum.kept)
+        refused_lent(writer, out, at, answer, sum.kept)
     }
 }
 
-fn adding_in(
+fn adding_in<W: Write>(
     line: &[u8],
     c: Cursor,
+    writer: &mut W,
     out: &mut [u8],
     at: usize,
     which: Call,
@@ -80,12 +90,12 @@ fn adding_in(
     agg: &mut [u64],
     share: &mut [u64],
     before: &mut [u64],
-) -> usize {
+) -> io::Result<usize> {
     let read = read_param(line, c);
     let agg_row = elements(line, read.next, agg, wide);
     let share_row = elements(line, agg_row.next, share, wide);
     if !words::ends(line, share_row.next) {
-        return bad(out, at);
+        return bad(writer, out, at);
     }
     let n = agg_row.len;
     let m = share_row.len;
@@ -97,17 +107,26 @@ fn adding_in(
         &share[0..m],
         before,
     );
-    answer_sum(out, at, sum, &agg[0..n], wide)
+    answer_sum(writer, out, at, sum, &agg[0..n], wide)
 }
 
 // merge, accumulate, subtract or unmerge.
-pub fn adding(line: &[u8], c: Cursor, out: &mut [u8], at: usize, which: Call, wide: bool) -> usize {
+pub fn adding<W: Write>(
+    line: &[u8],
+    c: Cursor,
+    writer: &mut W,
+    out: &mut [u8],
+    at: usize,
+    which: Call,
+    wide: bool,
+) -> io::Result<usize> {
     let mut agg = [0u64; 16384];
     let mut share = [0u64; 16384];
     let mut before = [0u64; 16384];
     adding_in(
         line,
         c,
+        writer,
         out,
         at,
         which,
@@ -189,23 +208,24 @@ fn sum_of(
     add_rows(param, wide, line, c, count, agg, before, row)
 }
 
-fn aggregate_in(
+fn aggregate_in<W: Write>(
     line: &[u8],
     c: Cursor,
+    writer: &mut W,
     out: &mut [u8],
     at: usize,
     wide: bool,
     agg: &mut [u64],
     before: &mut [u64],
     row: &mut [u64],
-) -> usize {
+) -> io::Result<usize> {
     let read = read_param(line, c);
     let count = words::decimal(line, read.next);
     let next = pass_rows(line, count.next, count.value, wide, row);
     let lens = lens_of(read.param, wide);
     let lent = lent_row(line, next, lens.aggregate, agg.len());
     if !lent.ok {
-        return bad(out, at);
+        return bad(writer, out, at);
     }
     let n = lent.len;
     let sum = sum_of(
@@ -218,14 +238,31 @@ fn aggregate_in(
         before,
         row,
     );
-    answer_sum(out, at, sum, &agg[0..n], wide)
+    answer_sum(writer, out, at, sum, &agg[0..n], wide)
 }
 
-pub fn aggregate(line: &[u8], c: Cursor, out: &mut [u8], at: usize, wide: bool) -> usize {
+pub fn aggregate<W: Write>(
+    line: &[u8],
+    c: Cursor,
+    writer: &mut W,
+    out: &mut [u8],
+    at: usize,
+    wide: bool,
+) -> io::Result<usize> {
     let mut agg = [0u64; 16384];
     let mut before = [0u64; 16384];
     let mut row = [0u64; 16384];
-    aggregate_in(line, c, out, at, wide, &mut agg, &mut before, &mut row)
+    aggregate_in(
+        line,
+        c,
+        writer,
+        out,
+        at,
+        wide,
+        &mut agg,
+        &mut before,
+        &mut row,
+    )
 }
 
 fn make_unshard(
@@ -241,41 +278,43 @@ fn make_unshard(
     vdaf::unshard(param, left, right, decoded)
 }
 
-fn answer_unshard(
+fn answer_unshard<W: Write>(
     wide: bool,
     param: PineParam,
+    writer: &mut W,
     out: &mut [u8],
     at: usize,
     left: &[u64],
     right: &[u64],
     decoded: &mut [f64],
-) -> usize {
+) -> io::Result<usize> {
     row::fill_doubles(decoded);
     let answer = make_unshard(wide, param, left, right, decoded);
     if answer.number == 0 {
-        ok_doubles(out, at, decoded)
+        ok_doubles(writer, out, at, decoded)
     } else {
-        refused_lent(out, at, answer, row::is_filled_doubles(decoded))
+        refused_lent(writer, out, at, answer, row::is_filled_doubles(decoded))
     }
 }
 
-fn unshard_in(
+fn unshard_in<W: Write>(
     line: &[u8],
     c: Cursor,
+    writer: &mut W,
     out: &mut [u8],
     at: usize,
     wide: bool,
     left: &mut [u64],
     right: &mut [u64],
     decoded: &mut [f64],
-) -> usize {
+) -> io::Result<usize> {
     let read = read_param(line, c);
     let left_row = elements(line, read.next, left, wide);
     let right_row = elements(line, left_row.next, right, wide);
     let lens = lens_of(read.param, wide);
     let lent = lent_row(line, right_row.next, lens.dimension, decoded.len());
     if !lent.ok {
-        return bad(out, at);
+        return bad(writer, out, at);
     }
     let n = lent.len;
     let l = left_row.len;
@@ -283,6 +322,7 @@ fn unshard_in(
     answer_unshard(
         wide,
         read.param,
+        writer,
         out,
         at,
         &left[0..l],
@@ -291,9 +331,26 @@ fn unshard_in(
     )
 }
 
-pub fn unshard(line: &[u8], c: Cursor, out: &mut [u8], at: usize, wide: bool) -> usize {
+pub fn unshard<W: Write>(
+    line: &[u8],
+    c: Cursor,
+    writer: &mut W,
+    out: &mut [u8],
+    at: usize,
+    wide: bool,
+) -> io::Result<usize> {
     let mut left = [0u64; 16384];
     let mut right = [0u64; 16384];
     let mut decoded = [0.0f64; 8192];
-    unshard_in(line, c, out, at, wide, &mut left, &mut right, &mut decoded)
+    unshard_in(
+        line,
+        c,
+        writer,
+        out,
+        at,
+        wide,
+        &mut left,
+        &mut right,
+        &mut decoded,
+    )
 }

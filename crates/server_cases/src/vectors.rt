@@ -5,6 +5,8 @@ use lines::words;
 use lines::words::Cursor;
 use pine::PineParam;
 use rules::Answer;
+use std::io;
+use std::io::Write;
 
 #[derive(Clone, Copy)]
 pub enum Which {
@@ -28,35 +30,50 @@ fn part_of<'a>(
 }
 
 // The two lent numbers hold something else before the call. A refused part is empty.
-fn answer_part(param: PineParam, out: &mut [u8], at: usize, full: &[u64], which: Which) -> usize {
+fn answer_part<W: Write>(
+    param: PineParam,
+    writer: &mut W,
+    out: &mut [u8],
+    at: usize,
+    full: &[u64],
+    which: Which,
+) -> io::Result<usize> {
     let mut number = u64::MAX;
     let mut place = u64::MAX;
     let part = part_of(param, full, which, &mut number, &mut place);
     if number == 0 && place == 0 {
-        return ok_elements(out, at, part, false);
+        return ok_elements(writer, out, at, part, false);
     }
     let answer = Answer { number, place };
-    refused_lent(out, at, answer, part.len() == 0)
+    refused_lent(writer, out, at, answer, part.len() == 0)
 }
 
-fn part_in(
+fn part_in<W: Write>(
     line: &[u8],
     c: Cursor,
+    writer: &mut W,
     out: &mut [u8],
     at: usize,
     which: Which,
     full: &mut [u64],
-) -> usize {
+) -> io::Result<usize> {
     let read = read_param(line, c);
     let full_row = words::elements(line, read.next, full);
     if !words::ends(line, full_row.next) {
-        return bad(out, at);
+        return bad(writer, out, at);
     }
     let n = full_row.len;
-    answer_part(read.param, out, at, &full[0..n], which)
+    answer_part(read.param, writer, out, at, &full[0..n], which)
 }
 
-pub fn part(line: &[u8], c: Cursor, out: &mut [u8], at: usize, which: Which) -> usize {
+pub fn part<W: Write>(
+    line: &[u8],
+    c: Cursor,
+    writer: &mut W,
+    out: &mut [u8],
+    at: usize,
+    which: Which,
+) -> io::Result<usize> {
     let mut full = [0u64; 16384];
-    part_in(line, c, out, at, which, &mut full)
+    part_in(line, c, writer, out, at, which, &mut full)
 }

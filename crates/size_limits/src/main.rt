@@ -6,34 +6,34 @@
 ghost use Rattle.std.specs.Prelude.{◌<◌};
 
 use day_file::FileLen;
-use libc::STDOUT_FILENO;
 use pine::PineParam;
+use std::io;
+use std::io::Write;
 
-fn print(size: FileLen) {
+fn print<W: Write>(writer: &mut W, size: FileLen) -> io::Result<()> {
     let answer = size.answer;
     if answer.number == 0 {
-        io::write_all(STDOUT_FILENO, b"ok ");
-        io::print_decimal(STDOUT_FILENO, size.len);
+        writeln!(writer, "ok {}", size.len)
     } else {
-        io::write_all(STDOUT_FILENO, b"refused ");
-        io::print_decimal(STDOUT_FILENO, answer.number);
-        io::write_all(STDOUT_FILENO, b" ");
-        io::print_decimal(STDOUT_FILENO, answer.place);
+        writeln!(writer, "refused {} {}", answer.number, answer.place)
     }
-    io::write_all(STDOUT_FILENO, b"\n");
 }
 
-fn show(keys: &[u8], most: u32)
+fn show<W: Write>(writer: &mut W, keys: &[u8], most: u32) -> io::Result<()>
     requires { 0 < most }
 {
-    print(file_size::size_up_to(PineParam::standard(1, 1, 0, 1, 1, 1, 1), keys, most));
+    print(
+        writer,
+        file_size::size_up_to(PineParam::standard(1, 1, 0, 1, 1, 1, 1), keys, most),
+    )
 }
 
 // Of the first keys, in so many bytes.
-fn show_first(keys: &[u8], n: usize) {
+fn show_first<W: Write>(writer: &mut W, keys: &[u8], n: usize) -> io::Result<()> {
     if n <= keys.len() {
-        show(&keys[..n], 1);
+        show(writer, &keys[..n], 1)?;
     }
+    Ok(())
 }
 
 // Keys that rise, in a row of zeros.
@@ -46,14 +46,31 @@ fn fill(keys: &mut [u8]) {
     }
 }
 
-fn main() {
-    show(b"", 1);
-    show(b"farm-3v1farm-3v1farm-1v1farm-2v1farm-3v1farm-1v1", 1);
-    show(b"farm-3v1farm-3v1farm-1v1farm-2v1farm-3v1farm-1v1", 2);
-    show(b"farm-3v1farm-3v1farm-1v1farm-2v1farm-3v1farm-1v1", 3);
-    show(b"farm-3v1farm-3v1farm-1v1farm-2v1farm-3v1farm-1v", 3);
+fn main(rt: HostRuntime) -> io::Result<()> {
+    let mut writer = io::writer(&rt);
+    show(&mut writer, b"", 1)?;
+    show(
+        &mut writer,
+        b"farm-3v1farm-3v1farm-1v1farm-2v1farm-3v1farm-1v1",
+        1,
+    )?;
+    show(
+        &mut writer,
+        b"farm-3v1farm-3v1farm-1v1farm-2v1farm-3v1farm-1v1",
+        2,
+    )?;
+    show(
+        &mut writer,
+        b"farm-3v1farm-3v1farm-1v1farm-2v1farm-3v1farm-1v1",
+        3,
+    )?;
+    show(
+        &mut writer,
+        b"farm-3v1farm-3v1farm-1v1farm-2v1farm-3v1farm-1v",
+        3,
+    )?;
     let mut keys = [0u8; 8200];
     fill(&mut keys);
-    show_first(&keys, 8192);
-    show_first(&keys, 8200);
+    show_first(&mut writer, &keys, 8192)?;
+    show_first(&mut writer, &keys, 8200)
 }

@@ -4,7 +4,8 @@
 
 ghost use Rattle.std.specs.Prelude.{◌<◌, ◌≤◌};
 
-use libc::STDOUT_FILENO;
+use std::io;
+use std::io::Write;
 use turboshake::Sponge;
 
 const LENGTHS: [usize; 8] = [0, 1, 167, 168, 169, 335, 336, 337];
@@ -22,23 +23,24 @@ fn wide(b: u8) -> u64 {
     b as u64
 }
 
-fn end_line() {
-    io::write_all(STDOUT_FILENO, b"\n");
+fn end_line<W: Write>(writer: &mut W) -> io::Result<()> {
+    writer.write_all(b"\n")
 }
 
-fn print(row: &[u8]) {
+fn print<W: Write>(writer: &mut W, row: &[u8]) -> io::Result<()> {
     let mut i = 0;
     while i < row.len() {
-        io::print_hex(STDOUT_FILENO, wide(row[i]), 2);
+        write!(writer, "{:02x}", wide(row[i]))?;
         i += 1;
     }
-    end_line();
+    end_line(writer)
 }
 
-fn print_first(row: &[u8], n: usize) {
+fn print_first<W: Write>(writer: &mut W, row: &[u8], n: usize) -> io::Result<()> {
     if n <= row.len() {
-        print(&row[..n]);
+        print(writer, &row[..n])?;
     }
+    Ok(())
 }
 
 fn absorb_first(s: Sponge, row: &[u8], n: usize) -> Sponge
@@ -83,16 +85,16 @@ fn fill_row(s: Sponge, row: &mut [u8; 100]) -> Sponge
 }
 
 // Writes the next 32 bytes of output.
-fn show_next(s: Sponge)
+fn show_next<W: Write>(writer: &mut W, s: Sponge) -> io::Result<()>
     requires { s.at < 168 }
 {
     let mut out = [0u8; 32];
     s.fill(&mut out);
-    print(&out);
+    print(writer, &out)
 }
 
 // Writes 32 bytes of output, those after 100 * rows bytes, which come out by rows.
-fn show(message: Sponge, d: u8, rows: usize)
+fn show<W: Write>(writer: &mut W, message: Sponge, d: u8, rows: usize) -> io::Result<()>
     requires { message.at < 168 }
 {
     let mut skipped = [0u8; 100];
@@ -103,25 +105,26 @@ fn show(message: Sponge, d: u8, rows: usize)
         s = next;
         i += 1;
     }
-    show_next(s);
+    show_next(writer, s)
 }
 
 // The RFC's examples.
-fn show_examples() {
-    show(absorb_pattern(0), 0x07, 0);
-    show(absorb_pattern(0), 0x07, 100);
+fn show_examples<W: Write>(writer: &mut W) -> io::Result<()> {
+    show(writer, absorb_pattern(0), 0x07, 0)?;
+    show(writer, absorb_pattern(0), 0x07, 100)?;
     let mut n = 1;
     while n <= 1419857 {
-        show(absorb_pattern(n), 0x07, 0);
+        show(writer, absorb_pattern(n), 0x07, 0)?;
         n *= 17;
     }
-    show(Sponge::new().absorb(b"\xff"), 0x06, 0);
-    show(Sponge::new().absorb(b"\xff\xff\xff"), 0x06, 0);
+    show(writer, Sponge::new().absorb(b"\xff"), 0x06, 0)?;
+    show(writer, Sponge::new().absorb(b"\xff\xff\xff"), 0x06, 0)?;
     show(
+        writer,
         Sponge::new().absorb(b"\xff\xff\xff\xff\xff\xff\xff"),
         0x06,
         0,
-    );
+    )
 }
 
 fn fill_cut(message: &[u8], m: usize, out: &mut [u8], n: usize) {
@@ -133,21 +136,22 @@ fn fill_cut(message: &[u8], m: usize, out: &mut [u8], n: usize) {
 }
 
 // n bytes of output for m bytes of the pattern.
-fn show_cut(m: usize, n: usize) {
+fn show_cut<W: Write>(writer: &mut W, m: usize, n: usize) -> io::Result<()> {
     let mut message = [0u8; 337];
     let mut out = [0u8; 337];
     pattern(&mut message);
     fill_cut(&message, m, &mut out, n);
-    print_first(&out, n);
+    print_first(writer, &out, n)
 }
 
-fn show_cuts() {
+fn show_cuts<W: Write>(writer: &mut W) -> io::Result<()> {
     let lengths = LENGTHS;
     let mut k: usize = 0;
     while k < 64 {
-        show_cut(lengths[k / 8], lengths[k % 8]);
+        show_cut(writer, lengths[k / 8], lengths[k % 8])?;
         k += 1;
     }
+    Ok(())
 }
 
 fn fill_xof(k: usize, row: &[u8], out: &mut [u8])
@@ -171,41 +175,43 @@ fn fill_xof(k: usize, row: &[u8], out: &mut [u8])
 }
 
 // Of XofTurboShake128: seed, binder, usage and length go by k.
-fn show_xof(k: usize)
+fn show_xof<W: Write>(writer: &mut W, k: usize) -> io::Result<()>
     requires { k < 64 }
 {
     let mut row = [0u8; 448];
     let mut out = [0u8; 700];
     pattern(&mut row);
     fill_xof(k, &row, &mut out);
-    print_first(&out, 11 * k);
+    print_first(writer, &out, 11 * k)
 }
 
-fn show_xofs() {
+fn show_xofs<W: Write>(writer: &mut W) -> io::Result<()> {
     let mut k: usize = 0;
     while k < 64 {
-        show_xof(k);
+        show_xof(writer, k)?;
         k += 1;
     }
+    Ok(())
 }
 
 // Of XofTurboShake128: a usage by its name, and a binder of so many bytes of the pattern and 42 numbers.
-fn show_usage(usage: u16, before: usize) {
+fn show_usage<W: Write>(writer: &mut W, usage: u16, before: usize) -> io::Result<()> {
     let mut row = [0u8; 251];
     pattern(&mut row);
     let numbers = [0x0123_4567_89ab_cdefu64; 42];
     let binder = absorb_part(xof::init([5; 16], usage), &row, before).absorb_words(&numbers);
-    show_next(xof::into_seed_stream(binder));
+    show_next(writer, xof::into_seed_stream(binder))
 }
 
-fn main() {
-    show_examples();
-    show_cuts();
-    show_xofs();
-    show_usage(xof::USAGE_MEAS_SHARE, 0);
-    show_usage(xof::USAGE_VF_JOINT_RAND_SEED, 1);
-    show_usage(xof::USAGE_VF_JOINT_RAND_PART, 17);
-    show_usage(xof::USAGE_WR_JOINT_RAND, 20);
-    show_usage(xof::USAGE_WR_JOINT_RAND_SEED, 141);
-    show_usage(xof::USAGE_WR_JOINT_RAND_PART, 143);
+fn main(rt: HostRuntime) -> io::Result<()> {
+    let mut writer = io::writer(&rt);
+    show_examples(&mut writer)?;
+    show_cuts(&mut writer)?;
+    show_xofs(&mut writer)?;
+    show_usage(&mut writer, xof::USAGE_MEAS_SHARE, 0)?;
+    show_usage(&mut writer, xof::USAGE_VF_JOINT_RAND_SEED, 1)?;
+    show_usage(&mut writer, xof::USAGE_VF_JOINT_RAND_PART, 17)?;
+    show_usage(&mut writer, xof::USAGE_WR_JOINT_RAND, 20)?;
+    show_usage(&mut writer, xof::USAGE_WR_JOINT_RAND_SEED, 141)?;
+    show_usage(&mut writer, xof::USAGE_WR_JOINT_RAND_PART, 143)
 }
