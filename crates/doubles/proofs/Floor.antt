@@ -1,5 +1,5 @@
 -- What the tests of `within_limit` on a double say of its floor. Assumes nothing.
-use Rattle.std.proofs.Common.{◌≡◌, ℕ, zero, suc, ◌+◌, ◌-◌, ◌*◌, ◌/◌, ◌^◌, ◌<◌, ◌≤◌, Bool, true, false, not, ◌&&◌, ◌||◌, T, eqb, ltb, ℤ, pos, negsuc, neg_ℤ, nat_abs, sym, refl, ap, ◌∙◌, subst, suc-le-suc, le_trans, le_of_eq, le_of_suc-le-suc, le_of_lt, lt_of_mul-lt-mul_right, mul-le-mul_left, mul-lt-mul_of_pos_right, mul-pos, le-div_iff_mul-le, mul-one, div-le_self, div-one, arith, lit<, lit≤, eqb→eq, ltb→lt, lt→ltb, pow_pos, ltb-false, ltb-true, le-ltb, lt-ltb, eqb-true}
+use Rattle.std.proofs.Common.{◌≡◌, ℕ, zero, suc, ◌+◌, ◌*◌, ◌/◌, ◌^◌, ◌<◌, ◌≤◌, Bool, true, false, not, ◌&&◌, ◌||◌, T, eqb, ltb, ℤ, pos, negsuc, neg_ℤ, nat_abs, sym, refl, ap, ◌∙◌, subst, suc-le-suc, le_trans, le_of_eq, le_of_suc-le-suc, le_of_lt, lt_of_mul-lt-mul_right, mul-le-mul_left, mul-lt-mul_of_pos_right, mul-pos, le-div_iff_mul-le, mul-one, div-le_self, div-one, arith, lit<, lit≤, eqb→eq, ltb→lt, lt→ltb, pow_pos, ltb-false, ltb-true, le-ltb, lt-ltb, eqb-true}
 use native.Mathlib.Nat.{zero-div}
 use lib.Dec.{eqb_refl}
 use borrow.Author.Tests.{eqb-false, not-true}

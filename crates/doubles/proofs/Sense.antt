@@ -7,7 +7,6 @@ use lib.IntN.{suc_ℤ}
 use lib.Signed.{le_z, lt_z}
 use lib.Ieee.{Float, nan, fin, of_int, neg, div}
 use Rattle.rules.specs.Rules.{accepted}
-use Rattle.field64.specs.Field.{p64}
 use Rattle.doubles.specs.Doubles.{floor_div, beyond, mod_p, floor_limit64, unusable, floor_of, coordinate_rule, element, centred_size, centred, decoded, size_rule, decoded_of}
 
 neg_le : (n a : ℕ) → a < n → T (le_z (neg_ℤ (pos n)) (negsuc a))

@@ -1,6 +1,6 @@
 -- A double as a field number, and back (docs/PINE.md, "One coordinate"). `Float` is the kit's account of IEEE 754: `fin s m e` is the number m · 2 ^ e,
 -- negative where s is true, and 2 ^ e is the fraction up e / down e. A whole number is `pos n`, which is n, or `negsuc n`, which is -(n + 1). Assumes nothing.
-use Rattle.std.specs.Prelude.{ℕ, ◌-◌, ◌*◌, ◌/◌, ◌%◌, ◌^◌, Bool, true, false, cond, ◌&&◌, List, [], ◌∷◌, ℤ, pos, negsuc, neg_ℤ, ◌==◌, nat_le, nat_lt, unsigned_abs, Float}
+use Rattle.std.specs.Prelude.{ℕ, ◌-◌, ◌*◌, ◌/◌, ◌%◌, ◌^◌, Bool, true, false, cond, ◌&&◌, [], ◌∷◌, ℤ, pos, negsuc, neg_ℤ, ◌==◌, nat_le, nat_lt, unsigned_abs, Float}
 use Rattle.std.specs.Float.{nan, inf, fin, binary64}
 use Rattle.std.specs.Float.Ieee.{up, down, of_int, neg, div}
 use Rattle.rules.specs.declared.Answer.{Answer}

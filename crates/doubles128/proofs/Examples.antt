@@ -1,5 +1,5 @@
 -- Worked rows at the edges of the two limits, of 2 ^ 64, and of zero. Assumes nothing.
-use Rattle.std.proofs.Common.{◌≡◌, ℕ, ◌+◌, ◌-◌, ◌/◌, ◌^◌, true, false, pos, negsuc, refl}
+use Rattle.std.proofs.Common.{◌≡◌, ℕ, ◌+◌, ◌-◌, ◌/◌, true, false, pos, negsuc, refl}
 use lib.Ieee.{Float, fin, round, div, neg, of_int}
 use Rattle.rules.specs.Rules.{answer, accepted}
 use Rattle.field64.specs.Field.{p64}

@@ -1,5 +1,5 @@
 -- What the tests of `within_limit` on a double say of its floor, and what is known of an accepted coordinate times the scale. Assumes nothing.
-use Rattle.std.proofs.Common.{◌≡◌, ℕ, suc, ◌+◌, ◌-◌, ◌*◌, ◌^◌, ◌<◌, ◌≤◌, Bool, true, false, not, ◌&&◌, T, ltb, ℤ, pos, negsuc, sym, refl, ap, ◌∙◌, le_trans, le_of_eq, lt_of_lt_of_le, lt_of_le_of_lt, le_of_lt, mul-le-mul_left, mul-pos, mul-one, arith, lit<, lit≤, pow_pos, ltb-false, ltb-true, le-ltb, lt-ltb}
+use Rattle.std.proofs.Common.{◌≡◌, ℕ, suc, ◌+◌, ◌*◌, ◌^◌, ◌<◌, ◌≤◌, Bool, true, false, not, ◌&&◌, T, ltb, ℤ, pos, negsuc, sym, refl, ap, ◌∙◌, le_trans, le_of_eq, lt_of_lt_of_le, lt_of_le_of_lt, le_of_lt, mul-le-mul_left, mul-pos, mul-one, arith, lit<, lit≤, pow_pos, ltb-false, ltb-true, le-ltb, lt-ltb}
 use lib.Ieee.{Float, nan, inf, fin, binary64, up, down, lt, fits, mul}
 use lib.Ieee.Fits.{down_pos}
 use Rattle.doubles.specs.Doubles.{floor_of, power, coordinate_rule}

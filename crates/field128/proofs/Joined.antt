@@ -1,12 +1,12 @@
 -- A number is joined to an element a modulo p where it is below p, or else modulo U = 2 ^ 128, and parted from it again. Assumes nothing.
-use Rattle.std.proofs.Common.{◌≡◌, ℕ, zero, suc, ◌+◌, ◌-◌, ◌*◌, ◌%◌, ◌^◌, ◌<◌, ◌≤◌, Bool, true, false, cond, eqb, ltb, sym, refl, ap, ◌∙◌, lt_of_lt_of_le, le_of_lt, mod-eq_of_lt, add_comm, arith, lit<, lit≤, ltb-false, ltb-true, le-ltb, lt-ltb}
+use Rattle.std.proofs.Common.{◌≡◌, ℕ, zero, suc, ◌+◌, ◌*◌, ◌%◌, ◌^◌, ◌<◌, ◌≤◌, Bool, true, false, cond, eqb, ltb, sym, refl, ap, ◌∙◌, lt_of_lt_of_le, le_of_lt, mod-eq_of_lt, add_comm, arith, lit<, lit≤, ltb-false, ltb-true, le-ltb, lt-ltb}
 use native.Mathlib.Nat.{add-mul-mod_self_right, mod-mod}
 use lib.Arith.{digits_lt}
 use Rattle.field64.specs.Field.{add_mod, sub_mod}
 use Rattle.field64.proofs.Modular.{sub_is}
 use Rattle.field128.proofs.Modulus.{difference}
 use Rattle.field128.specs.Field128.{p128, number}
-use Rattle.field128.specs.Joined.{modulus_for, joined, parted}
+use Rattle.field128.specs.Joined.{joined, parted}
 
 -- r is n modulo q
 remainder : (q n r j : ℕ) → r < q → r + j * q ≡ n → r ≡ n % q

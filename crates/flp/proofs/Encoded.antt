@@ -7,7 +7,6 @@ use native.Mathlib.Omega.{arith}
 use lib.ListN.{length, take, length-append}
 use lib.Seq.{take_at, drop_at, take_all}
 use Rattle.field64.specs.Field.{sub_mod}
-use Rattle.field64.specs.Sums.{number}
 use Rattle.field64.proofs.Modular.{sub_is}
 use Rattle.field64.proofs.Sums.{evaluate_below}
 use Rattle.pine.specs.declared.PineParam.{PineParam}

@@ -1,16 +1,14 @@
 -- The state and what is drawn from it. Assumes nothing.
 use mathlib.Core.Path.{◌≡◌, refl, sym, ap, ◌∙◌}
-use mathlib.Core.Bool.{cond}
-use mathlib.Core.List.{List, [], ◌∷◌, map}
-use Prim.Native.Nat.{ℕ, zero, suc, ◌+◌, ◌-◌, ◌*◌, ◌/◌, ◌%◌, ◌^◌, ◌≤◌, ◌<◌}
+use mathlib.Core.List.{List, ◌∷◌, map}
+use Prim.Native.Nat.{ℕ, zero, suc, ◌+◌, ◌-◌, ◌%◌, ◌^◌, ◌≤◌, ◌<◌}
 use native.Mathlib.Omega.{arith}
 use native.Mathlib.Numerals.{add-one}
 use native.Mathlib.Nat.{mod-lt}
 use lib.ListN.{length, get_or, take, drop, length-map, get_or-map}
-use lib.Dec.{T, leb, le→leb, lit<, lit≤}
-use lib.IntN.{pos, negsuc}
-use lib.Ieee.{Float, binary64, minus, in_float, of_int, neg, div, round}
-use lib.Ieee.Exact.{HasValue}
+use lib.Dec.{T, le→leb, lit<}
+use lib.IntN.{pos}
+use lib.Ieee.{binary64, in_float, of_int, neg, div}
 use borrow.Author.Tests.{le-leb, lt-leb}
 use Rattle.doubles.specs.Doubles.{power}
 use Rattle.doubles.proofs.Laws.{round_neg}

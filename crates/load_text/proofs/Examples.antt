@@ -4,7 +4,7 @@ use mathlib.Core.List.{List, [], ◌∷◌, ◌++◌}
 use mathlib.Core.Option.{none, some}
 use Prim.Native.Nat.{ℕ}
 use lib.ListN.{take}
-use Rattle.load_text.specs.Text.{other, number, digits_from, first_line, up_to, numbers_of, load_limits}
+use Rattle.load_text.specs.Text.{other, number, digits_from, first_line, numbers_of, load_limits}
 
 -- 1 800 33 8 4 6 7 3 87 10 0 1
 abbrev text : List ℕ

@@ -12,7 +12,7 @@ use lib.Dec.{eqb, leb}
 use borrow.Author.Tests.{eq-eqb, ne_eqb, le-leb, lt-leb, leb-true, leb-false}
 use Rattle.load_text.specs.declared.Read.{Read}
 use Rattle.load_text.specs.declared.Read.TheVariants.{Other, Number}
-use Rattle.load_text.specs.Text.{Line, other, number, is_digit, ends_at, digits_from, first_line, up_to, before, and_then, numbers_of, load_limits}
+use Rattle.load_text.specs.Text.{Line, other, number, is_digit, ends_at, digits_from, first_line, up_to, before, and_then, numbers_of}
 use Rattle.load_text.specs.Steps.{line_in, numbers_if}
 
 -- ---- a digit

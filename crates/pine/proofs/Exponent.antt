@@ -1,19 +1,16 @@
 -- The exponent of the test bound, which the record holds in its place: the bound, its bits and every length are had from it exactly. Assumes nothing.
-use mathlib.Core.Path.{◌≡◌, refl, sym, ap, ◌∙◌}
+use mathlib.Core.Path.{◌≡◌, refl, ap, ◌∙◌}
 use mathlib.Core.Bool.{true, false, cond}
 use Prim.Native.Nat.{ℕ, suc, ◌+◌, ◌-◌, ◌*◌, ◌%◌, ◌^◌, ◌≤◌, ◌<◌}
-use native.Mathlib.Nat.{mul-le-mul, mul-pos, le_antisymm, le_trans, lt_of_le_of_lt, lt_of_not-le, one-mul, mod-eq_of_lt, pow-suc}
+use native.Mathlib.Nat.{mul-le-mul, le_antisymm, le_trans, lt_of_le_of_lt, lt_of_not-le, one-mul, mod-eq_of_lt, pow-suc}
 use native.Mathlib.Omega.{arith}
-use lib.Dec.{eqb, ltb, lit<}
+use lib.Dec.{lit<}
 use lib.Pow.{pow_pos, pow_mono}
 use borrow.Author.Tests.{ne_eqb, le-ltb}
-use Rattle.rules.specs.Rules.{accepted, out_of}
+use Rattle.rules.specs.Rules.{out_of}
 use Rattle.rules.proofs.Chain.{within}
-use Rattle.pine.specs.declared.PineParam.{PineParam}
-use Rattle.pine.specs.Param.{Field, Field64, param_answer}
-use Rattle.pine.specs.Record.{ceil_div, digits, test_bound_of, test_exponent_of, sq_norm_bits_of, wr_test_bound, wr_test_exponent_of, wr_test_bits_of, bit_checked_len_of, encoded_input_len_of, input_len_of, gadget_calls_of, pine_of, bound_in, proof_len_of, lengths_main}
+use Rattle.pine.specs.Record.{ceil_div, digits, test_exponent_of}
 use Rattle.pine.proofs.Digits.{digits_above, digits_least, ceil_le}
-use Rattle.pine.proofs.Limits.{Limits}
 
 -- ---- over any exponent
 

@@ -1,5 +1,4 @@
 -- `c_inputs::param_of` meets its contract. Assumes nothing.
-use borrow.Author.Rules.{rules}
 use Rattle.c_inputs.proofs.param_of.Goals as goal
 
 pub returns : goal.returns

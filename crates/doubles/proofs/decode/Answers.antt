@@ -1,5 +1,5 @@
 -- `doubles::decode` meets its contract. Assumes nothing.
-use Rattle.std.proofs.Common.{ap, ◌∙◌, rules}
+use Rattle.std.proofs.Common.{ap, ◌∙◌}
 use lib.Ieee.{Float, binary64, div}
 use Rattle.field64.specs.Field.{p64}
 use Rattle.doubles.specs.Doubles.{centred, decoded}

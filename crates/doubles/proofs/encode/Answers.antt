@@ -1,5 +1,5 @@
 -- `doubles::encode` meets its contract: the rules, and then the element. Assumes nothing.
-use Rattle.std.proofs.Common.{sym, ap, ◌∙◌, rules}
+use Rattle.std.proofs.Common.{sym, ap, ◌∙◌}
 use Rattle.field64.specs.Field.{p64}
 use Rattle.rules.specs.declared.Answer.{Answer}
 use Rattle.doubles.specs.Doubles.{floor_limit64}

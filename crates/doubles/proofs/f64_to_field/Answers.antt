@@ -1,5 +1,5 @@
 -- `doubles::f64_to_field` meets its contract: rule 4, and then `encode`. Assumes nothing.
-use Rattle.std.proofs.Common.{◌∙◌, rules, lt-ltb}
+use Rattle.std.proofs.Common.{◌∙◌, lt-ltb}
 use Rattle.field64.specs.Field.{p64}
 use Rattle.doubles.specs.Doubles.{floor_limit64, coordinate_of}
 use Rattle.doubles.proofs.Accept.{small_frac_bits}

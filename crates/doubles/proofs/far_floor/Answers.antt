@@ -1,5 +1,5 @@
 -- `doubles::far_floor` meets its contract: 3 * 2 ^ 83 is given in MIR by its bit pattern. Assumes nothing.
-use Rattle.std.proofs.Common.{ℕ, ◌+◌, ◌*◌, ◌%◌, ◌^◌, T, sym, ap, ◌∙◌, subst, rules}
+use Rattle.std.proofs.Common.{ℕ, ◌+◌, ◌*◌, ◌%◌, ◌^◌, T, sym, ap, ◌∙◌, subst}
 use lib.Ieee.{binary64, to_bits, of_bits}
 use Rattle.doubles.proofs.Raised.{raised}
 use Rattle.doubles.proofs.Split.{Split, split}

@@ -1,5 +1,5 @@
 -- `doubles::field_to_f64` meets its contract: the rules in the order of `decoded_of`. Assumes nothing.
-use Rattle.std.proofs.Common.{lit≤, rules, le-ltb, lt-ltb, le-leb}
+use Rattle.std.proofs.Common.{lit≤, le-ltb, lt-ltb, le-leb}
 use borrow.Author.Tests.{lt-leb}
 use lib.Ieee.{of_bits}
 use Rattle.field64.specs.Field.{p64}

@@ -1,5 +1,5 @@
 -- `doubles::near_floor` meets its contract: 3 * 2 ^ 51 is given in MIR by its bit pattern. Assumes nothing.
-use Rattle.std.proofs.Common.{◌≡◌, ◌+◌, ◌∙◌, ⊎_elim, arith, lit<, rules}
+use Rattle.std.proofs.Common.{◌≡◌, ◌+◌, ◌∙◌, arith, lit<, rules}
 use lib.Ieee.{of_bits}
 use Rattle.doubles.proofs.Near.{Near, known, base, floor_lt, word_is}
 use Rattle.doubles.proofs.near_floor.Lts as lts
@@ -29,8 +29,8 @@ floor_is : (c : Joined-w-y) → c.if-w-y.floor ≡ base + (at_start c.before).fl
 unfolding of_bits
 floor_is c =
     elim c.if-w-y.branch [
-      then-w-y w ↦ omega (arith, (at_start c.before).above w.if-w-y.true, w.floor-is)
-    | else-w-y w ↦ w.floor-is ∙ (at_start c.before).level w.if-w-y.false
+      | then-w-y w ↦ omega (arith, (at_start c.before).above w.if-w-y.true, w.floor-is)
+      | else-w-y w ↦ w.floor-is ∙ (at_start c.before).level w.if-w-y.false
     ]
 
 pub returns : goal.returns

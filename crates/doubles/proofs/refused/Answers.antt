@@ -1,5 +1,5 @@
 -- `doubles::refused` meets its contract. Assumes nothing.
-use Rattle.std.proofs.Common.{T, sym, ◌∙◌, subst, lit<, rules}
+use Rattle.std.proofs.Common.{T, sym, ◌∙◌, subst, lit<}
 use lib.Ieee.{binary64, fits}
 use Rattle.doubles.specs.Doubles.{floor_limit64}
 use Rattle.doubles.proofs.Accept.{not_refused}

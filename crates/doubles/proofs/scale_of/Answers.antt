@@ -1,5 +1,5 @@
 -- `doubles::scale_of` meets its contract: 2 ^ f, for f up to 30, is a double, and `power f` is the one way to write it. Assumes nothing.
-use Rattle.std.proofs.Common.{◌≡◌, ℕ, ◌*◌, ◌%◌, ◌^◌, ◌≤◌, T, pos, sym, ap, ◌∙◌, subst, le_trans, lt_of_le_of_lt, mod-eq_of_lt, one-mul, lit<, lit≤, le→leb, pow_mono, rules}
+use Rattle.std.proofs.Common.{◌≡◌, ℕ, ◌*◌, ◌%◌, ◌^◌, ◌≤◌, T, pos, sym, ap, ◌∙◌, subst, le_trans, lt_of_le_of_lt, mod-eq_of_lt, one-mul, lit<, lit≤, le→leb, pow_mono}
 use lib.Ieee.{binary64, of_int, in_float}
 use Rattle.doubles.proofs.Laws.{power_is}
 use Rattle.doubles.proofs.scale_of.Goals as goal

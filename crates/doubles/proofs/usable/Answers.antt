@@ -1,5 +1,5 @@
 -- `doubles::usable` meets its contract. Assumes nothing.
-use Rattle.std.proofs.Common.{sym, ap, ◌∙◌, rules}
+use Rattle.std.proofs.Common.{sym, ap, ◌∙◌}
 use lib.Ieee.{of_bits}
 use Rattle.doubles.specs.Steps.{normal_size}
 use Rattle.doubles.proofs.Accept.{usable_normal, usable_other}

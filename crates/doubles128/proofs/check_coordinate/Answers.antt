@@ -1,6 +1,6 @@
 -- `doubles128::check_coordinate` meets its contract: rule 8, then rule 17, by the product with the scale. Assumes nothing.
-use Rattle.std.proofs.Common.{T, sym, ◌∙◌, subst, lit<, rules}
-use borrow.Author.Tests.{not-true, not-false}
+use Rattle.std.proofs.Common.{T, sym, ◌∙◌, subst, lit<}
+use borrow.Author.Tests.{not-false}
 use lib.Ieee.{binary64, fits}
 use Rattle.doubles128.specs.Doubles128.{floor_limit128}
 use Rattle.doubles.proofs.Accept.{usable_is, limit_is, answer_8, answer_17, answer_none}

@@ -1,5 +1,5 @@
 -- `doubles128::check_size` meets its contract. Assumes nothing.
-use Rattle.std.proofs.Common.{Bool, ap, ◌∙◌, rules}
+use Rattle.std.proofs.Common.{Bool, ap, ◌∙◌}
 use Rattle.rules.specs.Rules.{refuse}
 use Rattle.field128.specs.Field128.{number_of}
 use Rattle.doubles128.specs.Steps.{large}

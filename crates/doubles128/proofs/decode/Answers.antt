@@ -1,5 +1,5 @@
 -- `doubles128::decode` meets its contract. Assumes nothing.
-use Rattle.std.proofs.Common.{ap, ◌∙◌, rules}
+use Rattle.std.proofs.Common.{ap, ◌∙◌}
 use lib.Ieee.{Float, binary64, div}
 use Rattle.field128.specs.Field128.{p128, number_of}
 use Rattle.doubles.specs.Doubles.{centred, decoded}

@@ -1,5 +1,5 @@
 -- `doubles128::encode` meets its contract: the rules, and then the element. Assumes nothing.
-use Rattle.std.proofs.Common.{sym, ap, ◌∙◌, rules}
+use Rattle.std.proofs.Common.{sym, ap, ◌∙◌}
 use Rattle.field128.specs.Field128.{p128, number_of}
 use Rattle.rules.specs.declared.Answer.{Answer}
 use Rattle.doubles128.specs.Doubles128.{floor_limit128}

@@ -1,5 +1,5 @@
 -- `doubles128::f64_to_field` meets its contract: rule 4, and then `encode`. Assumes nothing.
-use Rattle.std.proofs.Common.{◌∙◌, rules, lt-ltb}
+use Rattle.std.proofs.Common.{◌∙◌, lt-ltb}
 use Rattle.field128.specs.Field128.{p128}
 use Rattle.doubles.specs.Doubles.{coordinate_of}
 use Rattle.doubles128.specs.Doubles128.{floor_limit128}

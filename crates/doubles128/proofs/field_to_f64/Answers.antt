@@ -1,5 +1,5 @@
 -- `doubles128::field_to_f64` meets its contract: the rules in the order of `decoded_of`. Assumes nothing.
-use Rattle.std.proofs.Common.{◌<◌, sym, ◌∙◌, rules, le-ltb, lt-ltb, leb-false}
+use Rattle.std.proofs.Common.{◌<◌, sym, ◌∙◌, le-ltb, lt-ltb, leb-false}
 use lib.Ieee.{of_bits}
 use Rattle.field128.specs.Field128.{p128, number_of}
 use Rattle.doubles.specs.Doubles.{decoded_of}

@@ -1,5 +1,5 @@
 -- `doubles128::refused` meets its contract. Assumes nothing.
-use Rattle.std.proofs.Common.{T, sym, ◌∙◌, subst, lit<, rules}
+use Rattle.std.proofs.Common.{T, sym, ◌∙◌, subst, lit<}
 use lib.Ieee.{binary64, fits}
 use Rattle.doubles128.specs.Doubles128.{floor_limit128}
 use Rattle.doubles.proofs.Accept.{not_refused}

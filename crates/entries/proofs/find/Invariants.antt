@@ -1,11 +1,7 @@
 -- `entries::find` meets its contract. Assumes nothing.
-use mathlib.Core.Path.{sym, ◌∙◌}
-use Prim.Native.Nat.{◌+◌, ◌-◌, ◌/◌, ◌≤◌}
-use native.Mathlib.Omega.{arith}
+use Prim.Native.Nat.{◌-◌, ◌≤◌}
 use Rattle.entries.specs.File.{keys_in}
-use Rattle.entries.proofs.Rows.{length-keys_in, keys_in_at}
-use Rattle.entries.proofs.Searching.{Between, between_start, between_up, between_down, between_end}
-use borrow.Author.Rules.{rules}
+use Rattle.entries.proofs.Searching.{Between}
 use Rattle.entries.proofs.find.Given as goal
 
 abbrev pub invariant-loop-low : goal.invariant-loop-low

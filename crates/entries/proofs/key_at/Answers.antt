@@ -3,7 +3,6 @@ use mathlib.Core.Path.{◌∙◌, ap}
 use Prim.Native.Nat.{◌*◌}
 use Rattle.rows.proofs.Blocks.{rest_is}
 use Rattle.entries.specs.File.{key_in}
-use borrow.Author.Rules.{rules}
 use Rattle.entries.proofs.key_at.Goals as goal
 
 pub returns : goal.returns

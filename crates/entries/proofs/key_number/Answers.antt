@@ -1,6 +1,5 @@
 -- `entries::key_number` meets its contract. Assumes nothing.
 use Rattle.entries.proofs.Keys.{key_eight}
-use borrow.Author.Rules.{rules}
 use Rattle.entries.proofs.key_number.Goals as goal
 
 pub returns : goal.returns

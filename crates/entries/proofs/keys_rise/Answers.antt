@@ -1,12 +1,9 @@
 -- `entries::keys_rise` meets its contract. Assumes nothing.
-use mathlib.Core.Path.{◌≡◌, sym, ◌∙◌}
-use Prim.Native.Nat.{◌-◌, ◌≤◌}
+use mathlib.Core.Path.{sym, ◌∙◌}
 use native.Mathlib.Omega.{arith}
-use lib.ListN.{drop}
-use Rattle.entries.specs.File.{keys_in, rising, rising_after}
+use Rattle.entries.specs.File.{keys_in}
 use Rattle.entries.proofs.Rows.{length-keys_in, keys_in_at}
 use Rattle.entries.proofs.Searching.{rise_start, rise_next, rise_stops, rise_end, rise_none}
-use borrow.Author.Rules.{rules}
 use Rattle.entries.proofs.keys_rise.Goals as goal
 
 pub returns-then-count-eq0 : goal.returns-then-count-eq0

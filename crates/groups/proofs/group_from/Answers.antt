@@ -1,7 +1,6 @@
 -- `groups::group_from` meets its contract. Assumes nothing.
 use mathlib.Core.Path.{◌≡◌}
 use Prim.Native.Nat.{ℕ, ◌+◌, ◌*◌, min}
-use borrow.Author.Rules.{rules}
 use Rattle.groups.specs.declared.Group.{Group}
 use Rattle.groups.specs.Groups.{group_from}
 use Rattle.groups.proofs.group_from.Goals as goal

@@ -1,5 +1,4 @@
 -- `joint_rand::begin_part` meets its contract. Assumes nothing.
-use borrow.Author.Rules.{rules}
 use Rattle.joint_rand.proofs.Parts.{begun}
 use Rattle.joint_rand.proofs.begin_part.Goals as goal
 

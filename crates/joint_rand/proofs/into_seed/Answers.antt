@@ -1,5 +1,4 @@
 -- `joint_rand::into_seed` meets its contract. Assumes nothing.
-use borrow.Author.Rules.{rules}
 use mathlib.Core.Path.{ap, ◌∙◌}
 use Rattle.turboshake.specs.Stream.{drawn}
 use Rattle.joint_rand.proofs.into_seed.Goals as goal

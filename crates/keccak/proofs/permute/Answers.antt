@@ -1,6 +1,5 @@
 -- `keccak::permute` meets its contract. Assumes nothing.
 use mathlib.Core.Path.{refl}
-use borrow.Author.Rules.{rules}
 use Rattle.keccak.proofs.Rounds.{round_more, rounds_are}
 use Rattle.keccak.proofs.permute.Goals as goal
 

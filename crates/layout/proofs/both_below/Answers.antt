@@ -1,16 +1,15 @@
 -- `layout::both_below` meets its contract. Assumes nothing.
 use mathlib.Core.Path.{◌≡◌, sym, ◌∙◌}
 use mathlib.Core.List.{List}
-use Prim.Native.Nat.{ℕ, ◌+◌, ◌-◌, ◌*◌, ◌≤◌, ◌<◌}
+use Prim.Native.Nat.{ℕ, ◌+◌, ◌-◌, ◌*◌, ◌<◌}
 use native.Mathlib.Omega.{arith}
 use lib.ListN.{take, drop, get_or}
 use Rattle.field64.specs.Field.{p64}
-use Rattle.rows.proofs.Blocks.{Seen, seen_none, seen_next, seen_all}
+use Rattle.rows.proofs.Blocks.{seen_none, seen_next, seen_all}
 use Rattle.octets.specs.Octets.{from_bytes, elements_in}
 use Rattle.octets.proofs.Bytes.{length-elements_in, elements_in_at}
 use Rattle.octets.proofs.Pasted.{part_long}
 use Rattle.layout.proofs.Tests.{both_carry, left_carries}
-use borrow.Author.Rules.{rules}
 use Rattle.layout.proofs.both_below.Goals as goal
 
 here : (n : ℕ) (bs : List ℕ) (i r : ℕ) → i < n → r ≡ from_bytes (take (8 * i + 8 - 8 * i) (drop (8 * i) bs)) → r ≡ get_or (elements_in n bs) i 0

@@ -1,5 +1,4 @@
 -- `layout::check_file` meets its contract. Assumes nothing.
-use borrow.Author.Rules.{rules}
 use Rattle.layout.proofs.check_file.Goals as goal
 
 pub returns-then-is_file : goal.returns-then-is_file

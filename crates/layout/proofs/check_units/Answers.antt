@@ -1,7 +1,6 @@
 -- `layout::check_units` meets its contract. Assumes nothing.
 use mathlib.Core.Path.{◌∙◌}
 use Rattle.layout.proofs.Tests.{units_right, units_other, units_over}
-use borrow.Author.Rules.{rules}
 use Rattle.layout.proofs.check_units.Goals as goal
 
 pub returns-then-over-eq0 : goal.returns-then-over-eq0

@@ -1,7 +1,6 @@
 -- `layout::count_of` meets its contract. Assumes nothing.
 use native.Mathlib.Omega.{arith}
 use Rattle.layout.proofs.Tests.{count_two, count_none}
-use borrow.Author.Rules.{rules}
 use Rattle.layout.proofs.count_of.Goals as goal
 
 pub returns-then-file-lt2 : goal.returns-then-file-lt2

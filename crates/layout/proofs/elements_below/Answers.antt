@@ -1,7 +1,6 @@
 -- `layout::elements_below` meets its contract. Assumes nothing.
 use Rattle.field64.specs.Field.{p64}
 use Rattle.layout.proofs.Tests.{halves_in}
-use borrow.Author.Rules.{rules}
 use Rattle.layout.proofs.elements_below.Goals as goal
 
 pub returns : goal.returns

@@ -1,7 +1,6 @@
 -- `layout::file_len` meets its contract. Assumes nothing.
 use native.Mathlib.Omega.{arith}
 use Rattle.layout.proofs.Tests.{size_fits}
-use borrow.Author.Rules.{rules}
 use Rattle.layout.proofs.file_len.Goals as goal
 
 pub overflow_mul-result-2 : goal.overflow_mul-result-2

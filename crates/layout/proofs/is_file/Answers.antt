@@ -3,7 +3,6 @@ use mathlib.Core.Path.{sym, ◌∙◌}
 use native.Mathlib.Omega.{arith}
 use Rattle.field64.specs.Field.{p64}
 use Rattle.layout.proofs.Tests.{dimension_four, product_fits, file_short, file_other, file_size, file_rows, rows_in_parts}
-use borrow.Author.Rules.{rules}
 use Rattle.layout.proofs.is_file.Goals as goal
 
 pub returns-then-file-lt6 : goal.returns-then-file-lt6

@@ -2,7 +2,6 @@
 use Rattle.field64.specs.Field.{p64}
 use Rattle.octets.specs.Octets.{elements_in}
 use Rattle.layout.proofs.Tests.{rows_many, rows_rise, rows_fall}
-use borrow.Author.Rules.{rules}
 use Rattle.layout.proofs.is_rows_in.Goals as goal
 
 pub returns-then-count-gt1024 : goal.returns-then-count-gt1024

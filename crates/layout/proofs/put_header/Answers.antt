@@ -1,7 +1,6 @@
 -- `layout::put_header` meets its contract. Assumes nothing.
 use native.Mathlib.Omega.{arith}
 use Rattle.layout.proofs.Tests.{header_filled}
-use borrow.Author.Rules.{rules}
 use Rattle.layout.proofs.put_header.Goals as goal
 
 pub returns : goal.returns

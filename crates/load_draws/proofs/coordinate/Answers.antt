@@ -1,5 +1,4 @@
 -- `load_draws::coordinate` meets its contract. Assumes nothing.
-use borrow.Author.Rules.{rules}
 use lib.Ieee.{of_bits}
 use Rattle.load_draws.proofs.Drawn.{counted_below, counted_above, coordinate_below, coordinate_above}
 use Rattle.load_draws.proofs.coordinate.Goals as goal

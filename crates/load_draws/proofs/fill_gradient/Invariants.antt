@@ -1,13 +1,10 @@
 -- `load_draws::fill_gradient` meets its contract. Assumes nothing.
-use mathlib.Core.Path.{◌≡◌, refl, sym, ap, ◌∙◌}
+use mathlib.Core.Path.{◌≡◌}
 use mathlib.Core.List.{map}
 use Prim.Native.Nat.{◌-◌}
-use native.Mathlib.Omega.{arith}
-use borrow.Author.Rules.{rules}
 use lib.ListN.{length}
-use Rattle.rows.proofs.Walk.{Walking, walking_next, walked_end}
-use Rattle.load_draws.specs.Draws.{states, coordinate, step, after}
-use Rattle.load_draws.proofs.Drawn.{after_next, length_drawn, drawn_at}
+use Rattle.rows.proofs.Walk.{Walking}
+use Rattle.load_draws.specs.Draws.{states, coordinate, after}
 use Rattle.load_draws.proofs.fill_gradient.Given as goal
 
 -- the row has the first i draws, and x is the state that the last of them used

@@ -1,16 +1,13 @@
 -- `load_text::digits_from` meets its contract. Assumes nothing.
 use mathlib.Core.Path.{◌≡◌, refl, sym, ap, ◌∙◌, subst}
 use mathlib.Core.Bool.{true, false}
-use Prim.Native.Nat.{ℕ, ◌+◌, ◌-◌, ◌≤◌}
+use Prim.Native.Nat.{ℕ, ◌+◌}
 use native.Mathlib.Omega.{arith}
 use borrow.Author.Rules.{rules}
-use lib.ListN.{length, get_or, drop}
+use lib.ListN.{get_or, drop}
 use Rattle.load_text.specs.Text.{is_digit, digits_from, up_to}
 use Rattle.load_text.specs.Steps.{Appends}
-use Rattle.load_text.proofs.Lines.{denied, affirmed, digit_above, too_wide, digits_nothing, digits_end, digits_next}
-use Rattle.load_text.proofs.append.Reads as append-reads
-use Rattle.load_text.proofs.end.Reads as end_reads
-use Rattle.load_text.proofs.is_digit.Reads as is-digit-reads
+use Rattle.load_text.proofs.Lines.{digit_above, too_wide, digits_nothing, digits_end, digits_next}
 use Rattle.load_text.proofs.digits_from.Lts as lts
 use Rattle.load_text.proofs.digits_from.Reads as reads
 use Rattle.load_text.proofs.digits_from.Tie as tie

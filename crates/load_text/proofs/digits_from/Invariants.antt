@@ -1,16 +1,8 @@
 -- `load_text::digits_from` meets its contract. Assumes nothing.
-use mathlib.Core.Path.{◌≡◌, refl, sym, ap, ◌∙◌, subst}
-use mathlib.Core.Bool.{true, false}
-use Prim.Native.Nat.{ℕ, ◌+◌, ◌-◌, ◌≤◌}
-use native.Mathlib.Omega.{arith}
-use borrow.Author.Rules.{rules}
-use lib.ListN.{length, get_or, drop}
-use Rattle.load_text.specs.Text.{is_digit, digits_from, up_to}
-use Rattle.load_text.specs.Steps.{Appends}
-use Rattle.load_text.proofs.Lines.{denied, affirmed, digit_above, too_wide, digits_nothing, digits_end, digits_next}
-use Rattle.load_text.proofs.append.Reads as append-reads
-use Rattle.load_text.proofs.end.Reads as end_reads
-use Rattle.load_text.proofs.is_digit.Reads as is-digit-reads
+use mathlib.Core.Path.{◌≡◌}
+use Prim.Native.Nat.{◌-◌, ◌≤◌}
+use lib.ListN.{length, drop}
+use Rattle.load_text.specs.Text.{digits_from}
 use Rattle.load_text.proofs.digits_from.Given as goal
 
 -- the digits up to i are those of n

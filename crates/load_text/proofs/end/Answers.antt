@@ -1,5 +1,4 @@
 -- `load_text::end` meets its contract. Assumes nothing.
-use borrow.Author.Rules.{rules}
 use Rattle.load_text.proofs.Lines.{end_nothing, end_other, end_number}
 use Rattle.load_text.proofs.end.Goals as goal
 

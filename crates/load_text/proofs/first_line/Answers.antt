@@ -1,11 +1,10 @@
 -- `load_text::first_line` meets its contract. Assumes nothing.
-use borrow.Author.Rules.{rules}
 use mathlib.Core.Path.{◌≡◌, sym, ◌∙◌}
-use mathlib.Core.Bool.{true, false}
+use mathlib.Core.Bool.{true}
 use native.Mathlib.Omega.{arith}
 use lib.ListN.{get_or}
 use Rattle.load_text.specs.Text.{is_digit}
-use Rattle.load_text.proofs.Lines.{denied, affirmed, digit_above, line_nothing, line_other, line_zero, line_digits}
+use Rattle.load_text.proofs.Lines.{digit_above, line_nothing, line_other, line_zero, line_digits}
 use Rattle.load_text.proofs.first_line.Lts as lts
 use Rattle.load_text.proofs.first_line.Reads as reads
 use Rattle.load_text.proofs.first_line.Tie as tie

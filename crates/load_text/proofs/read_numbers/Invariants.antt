@@ -1,10 +1,7 @@
 -- `load_text::read_numbers` meets its contract. Assumes nothing.
-use borrow.Author.Rules.{rules}
-use mathlib.Core.Path.{refl, sym, ◌∙◌}
 use Prim.Native.Nat.{◌-◌}
 use Rattle.load_text.specs.Text.{load_limits}
-use Rattle.load_text.proofs.Lines.{Reading, reading_other, reading_next, reading_done}
-use Rattle.load_text.proofs.first_line.Reads as first-line-reads
+use Rattle.load_text.proofs.Lines.{Reading}
 use Rattle.load_text.proofs.read_numbers.Given as goal
 
 -- the row has the numbers of the first k lines, and the rest of the text begins at `at`

@@ -1,11 +1,11 @@
 -- `octets::copy_bytes` meets its contract. Assumes nothing.
 use mathlib.Core.Path.{◌≡◌, refl, sym, ◌∙◌}
 use mathlib.Core.List.{List}
-use Prim.Native.Nat.{ℕ, ◌+◌, ◌-◌, ◌≤◌, ◌<◌}
+use Prim.Native.Nat.{ℕ, ◌+◌, ◌<◌}
 use native.Mathlib.Omega.{arith}
 use borrow.Author.Rules.{rules}
 use lib.ListN.{length, get_or, set, length-set}
-use Rattle.rows.proofs.Walk.{walked, walked_next, walked_end}
+use Rattle.rows.proofs.Walk.{walked_next, walked_end}
 use Rattle.octets.proofs.copy_bytes.Invariants.{Inv}
 use Rattle.octets.proofs.copy_bytes.Goals as goal
 

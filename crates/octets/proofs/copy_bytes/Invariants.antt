@@ -1,11 +1,9 @@
 -- `octets::copy_bytes` meets its contract. Assumes nothing.
-use mathlib.Core.Path.{◌≡◌, refl, sym, ◌∙◌}
+use mathlib.Core.Path.{◌≡◌}
 use mathlib.Core.List.{List}
-use Prim.Native.Nat.{ℕ, ◌+◌, ◌-◌, ◌≤◌, ◌<◌}
-use native.Mathlib.Omega.{arith}
-use borrow.Author.Rules.{rules}
-use lib.ListN.{length, get_or, set, length-set}
-use Rattle.rows.proofs.Walk.{walked, walked_next, walked_end}
+use Prim.Native.Nat.{ℕ, ◌-◌, ◌≤◌}
+use lib.ListN.{length}
+use Rattle.rows.proofs.Walk.{walked}
 use Rattle.octets.proofs.copy_bytes.Given as goal
 
 -- the invariant: the row is the other up to i, and as it was from there

@@ -5,7 +5,6 @@ use native.Mathlib.Omega.{arith}
 use lib.ListN.{take, drop}
 use Rattle.octets.specs.Octets.{from_bytes}
 use Rattle.octets.proofs.Pasted.{part_long}
-use borrow.Author.Rules.{rules}
 use Rattle.octets.proofs.element_at.Goals as goal
 
 eight : (at : ℕ) → at + 8 - at ≡ 8

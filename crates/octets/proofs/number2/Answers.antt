@@ -1,7 +1,6 @@
 -- `octets::number2` meets its contract. Assumes nothing.
 use native.Mathlib.Omega.{arith}
 use Rattle.octets.proofs.Bytes.{of_two}
-use borrow.Author.Rules.{rules}
 use Rattle.octets.proofs.number2.Goals as goal
 
 pub returns : goal.returns

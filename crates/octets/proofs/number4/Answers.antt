@@ -1,7 +1,6 @@
 -- `octets::number4` meets its contract. Assumes nothing.
 use native.Mathlib.Omega.{arith}
 use Rattle.octets.proofs.Bytes.{of_four}
-use borrow.Author.Rules.{rules}
 use Rattle.octets.proofs.number4.Goals as goal
 
 pub returns : goal.returns

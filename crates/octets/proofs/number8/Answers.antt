@@ -1,6 +1,5 @@
 -- `octets::number8` meets its contract. Assumes nothing.
 use Rattle.octets.proofs.Bytes.{of_eight}
-use borrow.Author.Rules.{rules}
 use Rattle.octets.proofs.number8.Goals as goal
 
 pub returns : goal.returns

@@ -2,7 +2,6 @@
 use mathlib.Core.Path.{refl}
 use lib.ListN.{length}
 use Rattle.octets.proofs.Pasted.{part_pasted}
-use borrow.Author.Rules.{rules}
 use Rattle.octets.proofs.put_bytes.Goals as goal
 
 pub returns : goal.returns

@@ -5,7 +5,6 @@ use lib.ListN.{length}
 use Rattle.octets.specs.Octets.{element_bytes}
 use Rattle.octets.proofs.Bytes.{length-element_bytes}
 use Rattle.octets.proofs.Pasted.{part_pasted}
-use borrow.Author.Rules.{rules}
 use Rattle.octets.proofs.put_elements.Goals as goal
 
 pub returns : goal.returns

@@ -1,7 +1,6 @@
 -- `octets::put_number` meets its contract. Assumes nothing.
 use mathlib.Core.Path.{refl}
 use Rattle.octets.proofs.Pasted.{number_pasted}
-use borrow.Author.Rules.{rules}
 use Rattle.octets.proofs.put_number.Goals as goal
 
 pub returns : goal.returns

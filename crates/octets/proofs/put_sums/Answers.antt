@@ -8,7 +8,6 @@ use Rattle.rows.proofs.Added.{length-add_rows}
 use Rattle.octets.specs.Octets.{element_bytes, elements_in}
 use Rattle.octets.proofs.Bytes.{length-elements_in, length-element_bytes}
 use Rattle.octets.proofs.Pasted.{part_pasted}
-use borrow.Author.Rules.{rules}
 use Rattle.octets.proofs.put_sums.Goals as goal
 
 pub returns : goal.returns

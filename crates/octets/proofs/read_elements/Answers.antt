@@ -4,7 +4,7 @@ use mathlib.Core.List.{List}
 use Prim.Native.Nat.{ℕ, ◌+◌, ◌-◌, ◌*◌, ◌<◌}
 use native.Mathlib.Omega.{arith}
 use lib.ListN.{length, set, take, drop}
-use Rattle.rows.proofs.Walk.{walked_end, Walking, walking_next}
+use Rattle.rows.proofs.Walk.{walked_end, walking_next}
 use Rattle.octets.specs.Octets.{from_bytes, elements_in}
 use Rattle.octets.proofs.Bytes.{length-elements_in, elements_in_at}
 use Rattle.octets.proofs.Pasted.{part_long}

@@ -1,14 +1,9 @@
 -- `octets::read_elements` meets its contract. Assumes nothing.
-use mathlib.Core.Path.{◌≡◌, refl, sym, ◌∙◌}
 use mathlib.Core.List.{List}
-use Prim.Native.Nat.{ℕ, ◌+◌, ◌-◌, ◌*◌, ◌<◌}
-use native.Mathlib.Omega.{arith}
-use lib.ListN.{length, set, take, drop}
-use Rattle.rows.proofs.Walk.{walked_end, Walking, walking_next}
-use Rattle.octets.specs.Octets.{from_bytes, elements_in}
-use Rattle.octets.proofs.Bytes.{length-elements_in, elements_in_at}
-use Rattle.octets.proofs.Pasted.{part_long}
-use borrow.Author.Rules.{rules}
+use Prim.Native.Nat.{ℕ, ◌-◌}
+use lib.ListN.{length}
+use Rattle.rows.proofs.Walk.{Walking}
+use Rattle.octets.specs.Octets.{elements_in}
 use Rattle.octets.proofs.read_elements.Given as goal
 
 -- the invariant: the row has the elements up to i, and is as it was from there

@@ -2,7 +2,6 @@
 use native.Mathlib.Omega.{arith}
 use lib.ListN.{length-set}
 use Rattle.octets.proofs.Bytes.{eight_set}
-use borrow.Author.Rules.{rules}
 use Rattle.octets.proofs.write_element.Goals as goal
 
 pub bounds-row-4 : goal.bounds-row-4

@@ -1,9 +1,7 @@
 -- `octets::write_elements` meets its contract. Assumes nothing.
-use mathlib.Core.Path.{◌≡◌, refl}
-use Prim.Native.Nat.{◌-◌, ◌*◌, ◌≤◌}
+use mathlib.Core.Path.{refl}
+use Prim.Native.Nat.{◌*◌}
 use native.Mathlib.Omega.{arith}
-use lib.ListN.{length, take}
-use Rattle.octets.specs.Octets.{element_bytes, filled}
 use Rattle.octets.proofs.Pasted.{part_long, elements_start, elements_written, elements_end}
 use borrow.Author.Rules.{rules}
 use Rattle.octets.proofs.write_elements.Goals as goal

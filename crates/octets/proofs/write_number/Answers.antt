@@ -1,12 +1,12 @@
 -- `octets::write_number` meets its contract. Assumes nothing.
 use mathlib.Core.Path.{◌≡◌, refl, sym, ap, ◌∙◌}
 use mathlib.Core.List.{List}
-use Prim.Native.Nat.{ℕ, ◌+◌, ◌-◌, ◌/◌, ◌%◌, ◌^◌, ◌≤◌, ◌<◌}
+use Prim.Native.Nat.{ℕ, ◌+◌, ◌/◌, ◌%◌, ◌^◌, ◌<◌}
 use native.Mathlib.Nat.{div-one, div-div-eq-div-mul, pow-suc}
 use native.Mathlib.Numerals.{add-one}
 use native.Mathlib.Omega.{arith}
 use lib.ListN.{length, set, length-set}
-use Rattle.rows.proofs.Walk.{walked, walked_next, walked_end}
+use Rattle.rows.proofs.Walk.{walked_next, walked_end}
 use Rattle.octets.specs.Octets.{to_bytes}
 use Rattle.octets.proofs.Bytes.{length_to_bytes, to_bytes_at}
 use borrow.Author.Rules.{rules}

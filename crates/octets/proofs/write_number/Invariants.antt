@@ -1,15 +1,10 @@
 -- `octets::write_number` meets its contract. Assumes nothing.
-use mathlib.Core.Path.{◌≡◌, refl, sym, ap, ◌∙◌}
+use mathlib.Core.Path.{◌≡◌}
 use mathlib.Core.List.{List}
-use Prim.Native.Nat.{ℕ, ◌+◌, ◌-◌, ◌/◌, ◌%◌, ◌^◌, ◌≤◌, ◌<◌}
-use native.Mathlib.Nat.{div-one, div-div-eq-div-mul, pow-suc}
-use native.Mathlib.Numerals.{add-one}
-use native.Mathlib.Omega.{arith}
-use lib.ListN.{length, set, length-set}
-use Rattle.rows.proofs.Walk.{walked, walked_next, walked_end}
+use Prim.Native.Nat.{ℕ, ◌-◌, ◌/◌, ◌^◌, ◌≤◌}
+use lib.ListN.{length}
+use Rattle.rows.proofs.Walk.{walked}
 use Rattle.octets.specs.Octets.{to_bytes}
-use Rattle.octets.proofs.Bytes.{length_to_bytes, to_bytes_at}
-use borrow.Author.Rules.{rules}
 use Rattle.octets.proofs.write_number.Given as goal
 
 -- the invariant: the row has the bytes up to i, and is as it was from there; `rest` has the others

@@ -1,15 +1,10 @@
 -- `octets::write_sums` meets its contract. Assumes nothing.
-use mathlib.Core.Path.{◌≡◌, refl, sym, ap, ◌∙◌}
-use mathlib.Core.List.{List}
-use Prim.Native.Nat.{ℕ, ◌-◌, ◌*◌, ◌≤◌, ◌<◌}
+use mathlib.Core.Path.{refl, sym, ap, ◌∙◌}
+use Prim.Native.Nat.{ℕ, ◌*◌}
 use native.Mathlib.Omega.{arith}
-use lib.ListN.{length, take, drop, get_or}
-use Rattle.field64.specs.Field.{p64, add_mod}
-use Rattle.rows.specs.Rows.{Below, add_rows}
-use Rattle.rows.proofs.Added.{length-add_rows, get_or-add_rows}
+use Rattle.field64.specs.Field.{p64}
 use Rattle.rows.proofs.Elements.{below_at}
-use Rattle.octets.specs.Octets.{from_bytes, to_bytes, element_bytes, elements_in, filled}
-use Rattle.octets.proofs.Bytes.{length-elements_in, elements_in_at}
+use Rattle.octets.specs.Octets.{to_bytes}
 use Rattle.octets.proofs.Pasted.{part_long, elements_start, elements_written, elements_end}
 use borrow.Author.Rules.{rules}
 use Rattle.octets.proofs.write_sums.Invariants.{sums, sums_long, sum_at, below_here}

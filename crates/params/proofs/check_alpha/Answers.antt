@@ -1,5 +1,4 @@
 -- `params::check_alpha` meets its contract. Assumes nothing.
-use borrow.Author.Rules.{rules}
 use Rattle.params.proofs.check_alpha.Goals as goal
 
 pub returns : goal.returns

@@ -1,5 +1,4 @@
 -- `params::check_param` meets its contract. Assumes nothing.
-use borrow.Author.Rules.{rules}
 use Rattle.pine.specs.Param.{param_rules, param_answer}
 use Rattle.params.proofs.check_param.Goals as goal
 

@@ -1,5 +1,4 @@
 -- `params::check_param_within` meets its contract: the rules of `param_rules_within`, in their order. Assumes nothing.
-use borrow.Author.Rules.{rules}
 use Rattle.rules.specs.Rules.{out_of}
 use Rattle.rules.proofs.Chain.{refuse_last}
 use Rattle.params.proofs.check_param_within.Goals as goal

@@ -1,5 +1,4 @@
 -- `params::derive_beside` meets its contract. Assumes nothing.
-use borrow.Author.Rules.{rules}
 use borrow.Author.Tests.{ne_eqb}
 use mathlib.Core.Path.{◌≡◌}
 use Rattle.rules.specs.Rules.{accepted}

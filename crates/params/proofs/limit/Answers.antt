@@ -1,5 +1,4 @@
 -- `params::limit` meets its contract. Assumes nothing.
-use borrow.Author.Rules.{rules}
 use mathlib.Core.Path.{◌∙◌, ap}
 use mathlib.Core.Bool.{Bool}
 use Rattle.rules.specs.Rules.{refuse}

@@ -1,7 +1,7 @@
 -- `rows::add_rows` meets its contract. Assumes nothing.
-use Rattle.std.proofs.Common.{◌-◌, length, refl, arith, rules}
+use Rattle.std.proofs.Common.{◌-◌, length}
 use Rattle.field64.specs.Field.{p64, add_mod}
-use Rattle.rows.proofs.Joining.{Joining, reads_below, joining_next, joined_end}
+use Rattle.rows.proofs.Joining.{Joining}
 use Rattle.rows.proofs.add_rows.Given as goal
 
 -- the invariant: the row is the sums up to i, and as it was from there

@@ -1,5 +1,5 @@
 -- `rows::check_elements` meets its contract. Assumes nothing.
-use Rattle.std.proofs.Common.{rules, le-ltb, lt-ltb}
+use Rattle.std.proofs.Common.{le-ltb, lt-ltb}
 use Rattle.rows.proofs.check_elements.Goals as goal
 
 pub returns-then-bad-row : goal.returns-then-bad-row

@@ -1,5 +1,5 @@
 -- `rows::check_len` meets its contract. Assumes nothing.
-use Rattle.std.proofs.Common.{rules, eq-eqb, ne_eqb}
+use Rattle.std.proofs.Common.{eq-eqb, ne_eqb}
 use Rattle.rows.proofs.check_len.Goals as goal
 
 pub returns-then-len-expected : goal.returns-then-len-expected

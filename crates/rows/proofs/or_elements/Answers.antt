@@ -1,5 +1,5 @@
 -- `rows::or_elements` meets its contract. Assumes nothing.
-use Rattle.std.proofs.Common.{sym, rules}
+use Rattle.std.proofs.Common.{sym}
 use Rattle.field64.specs.Field.{p64}
 use Rattle.rules.proofs.Chain.{first_refused}
 use Rattle.rows.proofs.Elements.{elements_after}

@@ -1,7 +1,7 @@
 -- `rows::sub_rows` meets its contract. Assumes nothing.
-use Rattle.std.proofs.Common.{◌-◌, length, refl, arith, rules}
+use Rattle.std.proofs.Common.{refl, arith, rules}
 use Rattle.field64.specs.Field.{p64, sub_mod}
-use Rattle.rows.proofs.Joining.{Joining, reads_below, joining_next, joined_end}
+use Rattle.rows.proofs.Joining.{reads_below, joining_next, joined_end}
 use Rattle.rows.proofs.sub_rows.Goals as goal
 
 pub loop-i-init : goal.loop-i-init

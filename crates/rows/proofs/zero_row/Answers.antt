@@ -1,7 +1,7 @@
 -- `rows::zero_row` meets its contract. Assumes nothing.
-use Rattle.std.proofs.Common.{ℕ, ◌-◌, length, replicate, sym, refl, ◌∙◌, arith, rules}
+use Rattle.std.proofs.Common.{ℕ, length, replicate, sym, refl, ◌∙◌, arith, rules}
 use lib.ListN.{length-replicate, get_or-replicate}
-use Rattle.rows.proofs.Walk.{Walking, walking_next, walked_end}
+use Rattle.rows.proofs.Walk.{walking_next, walked_end}
 use Rattle.rows.proofs.zero_row.Goals as goal
 
 pub loop-i-init : goal.loop-i-init

@@ -1,7 +1,6 @@
 -- `rows::zero_row` meets its contract. Assumes nothing.
-use Rattle.std.proofs.Common.{ℕ, ◌-◌, length, replicate, sym, refl, ◌∙◌, arith, rules}
-use lib.ListN.{length-replicate, get_or-replicate}
-use Rattle.rows.proofs.Walk.{Walking, walking_next, walked_end}
+use Rattle.std.proofs.Common.{◌-◌, length, replicate}
+use Rattle.rows.proofs.Walk.{Walking}
 use Rattle.rows.proofs.zero_row.Given as goal
 
 -- the invariant: the row is zeros up to i, and as it was from there

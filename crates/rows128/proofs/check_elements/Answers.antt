@@ -1,5 +1,5 @@
 -- `rows128::check_elements` meets its contract. Assumes nothing.
-use Rattle.std.proofs.Common.{rules, le-ltb, lt-ltb}
+use Rattle.std.proofs.Common.{le-ltb, lt-ltb}
 use Rattle.field128.proofs.Pairs.{elements_length}
 use Rattle.rows128.proofs.check_elements.Goals as goal
 

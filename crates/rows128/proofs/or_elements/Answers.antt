@@ -1,5 +1,5 @@
 -- `rows128::or_elements` meets its contract. Assumes nothing.
-use Rattle.std.proofs.Common.{ℕ, sym, ap, ◌∙◌, rules}
+use Rattle.std.proofs.Common.{ℕ, sym, ap, ◌∙◌}
 use Rattle.rules.proofs.Chain.{first_refused}
 use Rattle.rows.specs.Rows.{elements_from}
 use Rattle.rows.proofs.Elements.{elements_after}

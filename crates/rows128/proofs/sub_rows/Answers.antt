@@ -1,5 +1,5 @@
 -- `rows128::sub_rows` meets its contract. Assumes nothing.
-use Rattle.std.proofs.Common.{ℕ, ◌+◌, ◌-◌, ◌/◌, ◌^◌, ◌<◌, List, length, sym, refl, subst, le_of_lt, arith, rules}
+use Rattle.std.proofs.Common.{ℕ, ◌+◌, ◌^◌, ◌<◌, List, sym, refl, subst, le_of_lt, arith, rules}
 use Rattle.field64.specs.Field.{sub_mod}
 use Rattle.field128.specs.Field128.{p128}
 use Rattle.field128.proofs.Pairs.{elements_length}

@@ -1,9 +1,8 @@
 -- `rows128::sub_rows` meets its contract. Assumes nothing.
-use Rattle.std.proofs.Common.{ℕ, ◌+◌, ◌-◌, ◌/◌, ◌^◌, ◌<◌, List, length, sym, refl, subst, le_of_lt, arith, rules}
+use Rattle.std.proofs.Common.{◌-◌, ◌/◌, length}
 use Rattle.field64.specs.Field.{sub_mod}
 use Rattle.field128.specs.Field128.{p128}
-use Rattle.field128.proofs.Pairs.{elements_length}
-use Rattle.rows128.proofs.ByPairs.{Pairing, pairing_room, pairing_below, pairing_next, pairing_end}
+use Rattle.rows128.proofs.ByPairs.{Pairing}
 use Rattle.rows128.proofs.sub_rows.Given as goal
 
 -- the invariant: the elements are the differences up to i, and as they were from there

@@ -1,10 +1,8 @@
 -- `stream_states::draw_tile` meets its contract. Assumes nothing.
-use mathlib.Core.Path.{◌≡◌, refl, subst, ◌∙◌}
-use Prim.Native.Nat.{ℕ, ◌+◌, ◌-◌, ◌*◌, ◌≤◌, ◌<◌}
-use native.Mathlib.Omega.{arith}
-use lib.ListN.{length, take, drop}
-use borrow.Rule.Slice.PartMut.{same_len_mid}
-use Rattle.stream_states.proofs.States.{Tiled, tiled_none, tiled_next, next_ready, inside, few, as_many, piece_long}
+use mathlib.Core.Path.{◌≡◌}
+use Prim.Native.Nat.{◌-◌, ◌≤◌}
+use lib.ListN.{length}
+use Rattle.stream_states.proofs.States.{Tiled}
 use Rattle.stream_states.proofs.draw_tile.Given as goal
 
 abbrev pub invariant-loop-t : goal.invariant-loop-t

@@ -1,13 +1,9 @@
 -- `stream_states::find_starts` meets its contract. Assumes nothing.
-use mathlib.Core.Path.{◌≡◌, refl, subst, sym, ap, ◌∙◌}
-use mathlib.Core.List.{List}
-use Prim.Native.Nat.{ℕ, ◌+◌, ◌-◌, ◌*◌, ◌≤◌, ◌<◌}
-use native.Mathlib.Omega.{arith}
-use lib.ListN.{length, take, drop}
-use borrow.Rule.Slice.PartMut.{same_len_mid}
+use mathlib.Core.Path.{◌≡◌}
+use Prim.Native.Nat.{◌-◌, ◌*◌, ◌≤◌, ◌<◌}
+use lib.ListN.{length}
 use Rattle.turboshake.specs.Stream.{after}
 use Rattle.stream_states.specs.States.{states_of, starts_of}
-use Rattle.stream_states.proofs.States.{starts_none, starts_put, starts_on, inside, piece_long}
 use Rattle.stream_states.proofs.find_starts.Given as goal
 
 abbrev pub invariant-loop-t : goal.invariant-loop-t

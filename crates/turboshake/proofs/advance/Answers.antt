@@ -3,7 +3,6 @@ use mathlib.Core.Path.{sym, ap, ◌∙◌}
 use mathlib.Core.List.{List}
 use Prim.Native.Nat.{ℕ, ◌+◌, ◌<◌}
 use native.Mathlib.Omega.{arith}
-use borrow.Author.Rules.{rules}
 use Rattle.turboshake.specs.Stream.{sponge}
 use Rattle.turboshake.proofs.Moved.{moved_full, moved_part}
 use Rattle.turboshake.proofs.advance.Goals as goal

@@ -1,7 +1,6 @@
 -- `turboshake::put` meets its contract. Assumes nothing.
 use mathlib.Core.Path.{ap, ◌∙◌}
 use Prim.Native.Nat.{ℕ, ◌*◌, ◌/◌, ◌%◌, ◌^◌}
-use borrow.Author.Rules.{rules}
 use lib.ListN.{get_or, set}
 use lib.Bits.{bit_xor}
 use Rattle.turboshake.proofs.Moved.{shifted_byte}

@@ -1,8 +1,6 @@
 -- `turboshake::put_block` meets its contract. The invariant: q lanes are xored. Assumes nothing.
 use Prim.Native.Nat.{◌-◌, ◌≤◌}
-use native.Mathlib.Omega.{arith}
-use borrow.Author.Rules.{rules}
-use Rattle.turboshake.proofs.Words.{AbsorbsLanes, lanes_none, lanes_next, lanes_all}
+use Rattle.turboshake.proofs.Words.{AbsorbsLanes}
 use Rattle.turboshake.proofs.put_block.Given as goal
 
 abbrev pub invariant-loop-q : goal.invariant-loop-q

@@ -1,7 +1,6 @@
 -- `turboshake::put_word` meets its contract. Assumes nothing.
 use mathlib.Core.Path.{sym, ◌∙◌}
 use native.Mathlib.Omega.{arith}
-use borrow.Author.Rules.{rules}
 use Rattle.turboshake.proofs.Words.{word_aligned, across_below, word_across}
 use Rattle.turboshake.proofs.put_word.Goals as goal
 

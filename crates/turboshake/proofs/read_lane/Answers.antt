@@ -1,7 +1,6 @@
 -- `turboshake::read_lane` meets its contract. Assumes nothing.
 use mathlib.Core.Path.{refl}
 use native.Mathlib.Omega.{arith}
-use borrow.Author.Rules.{rules}
 use Rattle.turboshake.proofs.Written.{eight_loads}
 use Rattle.turboshake.proofs.read_lane.Goals as goal
 

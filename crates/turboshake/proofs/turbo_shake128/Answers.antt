@@ -1,7 +1,6 @@
 -- `turboshake::turbo_shake128` meets its contract. Assumes nothing.
 use mathlib.Core.Path.{ap, ◌∙◌}
 use lib.ListN.{length}
-use borrow.Author.Rules.{rules}
 use Rattle.turboshake.specs.Stream.{absorb_all, finished, drawn}
 use Rattle.turboshake.proofs.Shake.{stream_is, bytes_all}
 use Rattle.turboshake.proofs.turbo_shake128.Goals as goal

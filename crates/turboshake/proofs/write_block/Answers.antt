@@ -1,9 +1,7 @@
 -- `turboshake::write_block` meets its contract. The invariant: the bytes of q lanes are written. Assumes nothing.
 use mathlib.Core.Path.{◌≡◌, refl, subst}
-use Prim.Native.Nat.{ℕ, ◌-◌, ◌+◌, ◌*◌, ◌≤◌}
+use Prim.Native.Nat.{ℕ, ◌+◌, ◌*◌}
 use native.Mathlib.Omega.{arith}
-use borrow.Author.Rules.{rules}
-use lib.ListN.{length}
 use Rattle.turboshake.specs.Stream.{sponge}
 use Rattle.turboshake.proofs.Drawn.{Wrote, wrote_none, wrote_length, block_next}
 use Rattle.turboshake.proofs.write_block.Goals as goal

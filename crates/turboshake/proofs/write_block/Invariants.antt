@@ -1,11 +1,9 @@
 -- `turboshake::write_block` meets its contract. The invariant: the bytes of q lanes are written. Assumes nothing.
-use mathlib.Core.Path.{◌≡◌, refl, subst}
-use Prim.Native.Nat.{ℕ, ◌-◌, ◌+◌, ◌*◌, ◌≤◌}
-use native.Mathlib.Omega.{arith}
-use borrow.Author.Rules.{rules}
+use mathlib.Core.Path.{◌≡◌}
+use Prim.Native.Nat.{◌-◌, ◌*◌, ◌≤◌}
 use lib.ListN.{length}
 use Rattle.turboshake.specs.Stream.{sponge}
-use Rattle.turboshake.proofs.Drawn.{Wrote, wrote_none, wrote_length, block_next}
+use Rattle.turboshake.proofs.Drawn.{Wrote}
 use Rattle.turboshake.proofs.write_block.Given as goal
 
 abbrev pub invariant-loop-q : goal.invariant-loop-q

@@ -1,6 +1,5 @@
 -- `turboshake::write_lane` meets its contract. Assumes nothing.
 use native.Mathlib.Omega.{arith}
-use borrow.Author.Rules.{rules}
 use lib.ListN.{length-set}
 use Rattle.turboshake.proofs.Written.{eight_stores}
 use Rattle.turboshake.proofs.write_lane.Goals as goal

@@ -4,7 +4,6 @@ use Prim.Native.Nat.{ℕ}
 use native.Mathlib.Omega.{arith}
 use Rattle.turboshake.specs.Stream.{sponge}
 use Rattle.turboshake.proofs.Drawn.{Wrote, wrote_lane, wrote_byte}
-use borrow.Author.Rules.{rules}
 use Rattle.turboshake.proofs.write_next.Goals as goal
 
 pub returns-then-room-ge-RATE : goal.returns-then-room-ge-RATE

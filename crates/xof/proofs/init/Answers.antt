@@ -4,7 +4,6 @@ use mathlib.Core.List.{◌∷◌}
 use Rattle.turboshake.specs.Stream.{absorb_all}
 use Rattle.xof.specs.Xof.{algorithm_id, dst}
 use Rattle.xof.proofs.Frame.{parts_absorbed}
-use borrow.Author.Rules.{rules}
 use Rattle.xof.proofs.init.Goals as goal
 
 pub returns : goal.returns

@@ -1,7 +1,6 @@
 -- `xof::seed_of` meets its contract. Assumes nothing.
 use mathlib.Core.Path.{◌∙◌}
 use native.Mathlib.Omega.{arith}
-use borrow.Author.Rules.{rules}
 use lib.Seq.{take_all}
 use Rattle.turboshake.proofs.Written.{elements_are}
 use Rattle.xof.proofs.seed_of.Goals as goal

@@ -3,7 +3,6 @@ use mathlib.Core.Path.{ap, ◌∙◌}
 use Rattle.turboshake.specs.Stream.{finished}
 use Rattle.xof.specs.Xof.{algorithm_id, dst, before_binder}
 use Rattle.xof.proofs.Frame.{parts_absorbed}
-use borrow.Author.Rules.{rules}
 use Rattle.xof.proofs.seed_stream.Goals as goal
 
 pub returns : goal.returns

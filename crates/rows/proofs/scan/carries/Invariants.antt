@@ -1,8 +1,7 @@
 -- `rows::scan::carries` meets its contract. Assumes nothing.
-use Rattle.std.proofs.Common.{◌+◌, ◌-◌, ◌≤◌, length, drop, sym, ◌∙◌, true≢false, arith, rules}
+use Rattle.std.proofs.Common.{◌-◌, ◌≤◌, length}
 use Rattle.field64.specs.Field.{p64}
-use Rattle.rows.proofs.Elements.{below_take, below_drop}
-use Rattle.rows.proofs.Blocks.{Seen, seen_none, seen_part, seen_good, seen_all}
+use Rattle.rows.proofs.Blocks.{Seen}
 use Rattle.rows.proofs.scan.carries.Given as goal
 
 abbrev pub invariant-loop-at : goal.invariant-loop-at

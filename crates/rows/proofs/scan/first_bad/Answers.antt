@@ -1,5 +1,5 @@
 -- `rows::scan::first_bad` meets its contract. Assumes nothing.
-use Rattle.std.proofs.Common.{sym, rules}
+use Rattle.std.proofs.Common.{sym}
 use Rattle.field64.specs.Field.{p64}
 use Rattle.rows.proofs.Elements.{none_bad}
 use Rattle.rows.proofs.scan.first_bad.Goals as goal

@@ -1,8 +1,8 @@
 -- `rows::scan::has_bad` meets its contract. Assumes nothing.
-use Rattle.std.proofs.Common.{◌-◌, ◌≤◌, length, refl, true≢false, arith, rules}
+use Rattle.std.proofs.Common.{refl, true≢false, arith}
 use Rattle.field64.specs.Field.{p64}
 use Rattle.rows.proofs.Elements.{below_at}
-use Rattle.rows.proofs.Blocks.{Seen, seen_none, seen_next, seen_all}
+use Rattle.rows.proofs.Blocks.{seen_none, seen_next, seen_all}
 use Rattle.rows.proofs.scan.has_bad.Goals as goal
 
 pub loop-i-init : goal.loop-i-init

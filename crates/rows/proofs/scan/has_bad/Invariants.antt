@@ -1,8 +1,7 @@
 -- `rows::scan::has_bad` meets its contract. Assumes nothing.
-use Rattle.std.proofs.Common.{◌-◌, ◌≤◌, length, refl, true≢false, arith, rules}
+use Rattle.std.proofs.Common.{◌-◌, ◌≤◌, length}
 use Rattle.field64.specs.Field.{p64}
-use Rattle.rows.proofs.Elements.{below_at}
-use Rattle.rows.proofs.Blocks.{Seen, seen_none, seen_next, seen_all}
+use Rattle.rows.proofs.Blocks.{Seen}
 use Rattle.rows.proofs.scan.has_bad.Given as goal
 
 abbrev pub invariant-loop-i : goal.invariant-loop-i

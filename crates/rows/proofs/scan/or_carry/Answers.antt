@@ -1,5 +1,5 @@
 -- `rows::scan::or_carry` meets its contract. Assumes nothing.
-use Rattle.std.proofs.Common.{refl, arith, lit≤, rules}
+use Rattle.std.proofs.Common.{refl, arith, lit≤}
 use Rattle.field64.specs.Field.{p64}
 use Rattle.rows.proofs.Blocks.{carry_gives}
 use Rattle.rows.proofs.scan.or_carry.Goals as goal

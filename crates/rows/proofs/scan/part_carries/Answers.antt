@@ -1,7 +1,7 @@
 -- `rows::scan::part_carries` meets its contract. Assumes nothing.
-use Rattle.std.proofs.Common.{◌-◌, ◌≤◌, length, refl, arith, rules}
+use Rattle.std.proofs.Common.{refl, arith}
 use Rattle.field64.specs.Field.{p64}
-use Rattle.rows.proofs.Blocks.{Seen, seen_none, seen_next, seen_all}
+use Rattle.rows.proofs.Blocks.{seen_none, seen_next, seen_all}
 use Rattle.rows.proofs.scan.part_carries.Goals as goal
 
 pub loop-i-init : goal.loop-i-init

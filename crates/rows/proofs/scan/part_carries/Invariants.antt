@@ -1,7 +1,7 @@
 -- `rows::scan::part_carries` meets its contract. Assumes nothing.
-use Rattle.std.proofs.Common.{◌-◌, ◌≤◌, length, refl, arith, rules}
+use Rattle.std.proofs.Common.{◌-◌, ◌≤◌, length}
 use Rattle.field64.specs.Field.{p64}
-use Rattle.rows.proofs.Blocks.{Seen, seen_none, seen_next, seen_all}
+use Rattle.rows.proofs.Blocks.{Seen}
 use Rattle.rows.proofs.scan.part_carries.Given as goal
 
 abbrev pub invariant-loop-i : goal.invariant-loop-i

@@ -1,7 +1,6 @@
 -- `rows::scan::search` meets its contract. The invariant: the answer for the row is i and the answer for the rest. Assumes nothing.
-use Rattle.std.proofs.Common.{◌≡◌, ◌+◌, ◌-◌, ◌≤◌, [], length, drop, arith, drop_of_length-le, rules}
+use Rattle.std.proofs.Common.{◌≡◌, [], drop, arith, drop_of_length-le}
 use Rattle.field64.specs.Field.{p64}
-use Rattle.rows.specs.Rows.{first_bad}
 use Rattle.rows.proofs.Elements.{bad_next, bad_here}
 use Rattle.rows.proofs.scan.search.Goals as goal
 

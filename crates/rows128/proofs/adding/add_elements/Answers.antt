@@ -1,6 +1,5 @@
 -- `rows128::adding::add_elements` meets its contract. Assumes nothing.
 use Rattle.rows128.proofs.OneRun.{to_be_parted, added, not_added}
-use Rattle.std.proofs.Common.{rules}
 use Rattle.rows128.proofs.adding.add_elements.Goals as goal
 
 pub returns-then-run-n : goal.returns-then-run-n

@@ -1,13 +1,12 @@
 -- `rows128::adding::join_rows` meets its contract. Assumes nothing.
-use Rattle.std.proofs.Common.{◌≡◌, ℕ, ◌+◌, ◌-◌, ◌*◌, ◌/◌, ◌^◌, ◌<◌, ◌≤◌, List, [], length, get_or, take, drop, sym, refl, ◌∙◌, subst, arith, drop_of_length-le, rules, leb-false, leb-true}
-use Rattle.rows.specs.Rows.{first_bad, Below}
+use Rattle.std.proofs.Common.{◌≡◌, ℕ, ◌+◌, ◌*◌, ◌^◌, ◌<◌, ◌≤◌, List, [], length, get_or, drop, sym, refl, ◌∙◌, subst, arith, drop_of_length-le, rules, leb-false, leb-true}
 use Rattle.rows.proofs.Elements.{bad_next, bad_here}
 use Rattle.field128.specs.Field128.{p128, number, number_of, elements_of}
 use Rattle.field128.specs.Joined.{joined}
 use Rattle.field128.proofs.Joined.{word_pair, flag_fits}
 use Rattle.field128.proofs.Pairs.{elements_length, element_at, element_inside}
 use Rattle.rows128.proofs.ByPairs.{Pairing, pairing_room, pairing_kept, pairing_next}
-use Rattle.rows128.proofs.OneRun.{Counted, counted_none, counted_next, below_next, words_next}
+use Rattle.rows128.proofs.OneRun.{counted_none, counted_next, below_next, words_next}
 use Rattle.rows128.proofs.adding.join_rows.Lts as lts
 use Rattle.rows128.proofs.adding.join_rows.Reads as reads
 use Rattle.rows128.proofs.adding.join_rows.Tie as tie

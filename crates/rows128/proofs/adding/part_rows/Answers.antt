@@ -1,5 +1,5 @@
 -- `rows128::adding::part_rows` meets its contract. Assumes nothing.
-use Rattle.std.proofs.Common.{◌≡◌, ℕ, ◌+◌, ◌-◌, ◌*◌, ◌^◌, ◌<◌, ◌≤◌, List, ◌++◌, take, drop, sym, refl, subst, arith, rules}
+use Rattle.std.proofs.Common.{◌≡◌, ℕ, ◌+◌, ◌*◌, ◌^◌, ◌<◌, List, ◌++◌, take, drop, sym, refl, subst, arith, rules}
 use Rattle.rows.specs.Rows.{by_element}
 use Rattle.field128.specs.Field128.{elements_of, words_of}
 use Rattle.field128.specs.Joined.{parted}

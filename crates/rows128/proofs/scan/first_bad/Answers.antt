@@ -1,5 +1,5 @@
 -- `rows128::scan::first_bad` meets its contract. Assumes nothing.
-use Rattle.std.proofs.Common.{sym, ◌∙◌, rules}
+use Rattle.std.proofs.Common.{sym, ◌∙◌}
 use Rattle.rows.proofs.Elements.{none_bad}
 use Rattle.field128.specs.Field128.{p128, elements_of}
 use Rattle.field128.proofs.Pairs.{elements_length}

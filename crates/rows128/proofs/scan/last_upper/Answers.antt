@@ -1,5 +1,5 @@
 -- `rows128::scan::last_upper` meets its contract. Assumes nothing.
-use Rattle.std.proofs.Common.{rules, eq-eqb, ne_eqb}
+use Rattle.std.proofs.Common.{eq-eqb, ne_eqb}
 use Rattle.rows128.proofs.scan.last_upper.Goals as goal
 
 pub returns-then-low-eq0 : goal.returns-then-low-eq0

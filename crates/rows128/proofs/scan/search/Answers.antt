@@ -1,6 +1,5 @@
 -- `rows128::scan::search` meets its contract. The invariant: the answer for the row is i and the answer for the rest. Assumes nothing.
-use Rattle.std.proofs.Common.{◌≡◌, ◌+◌, ◌-◌, ◌/◌, ◌≤◌, [], length, drop, arith, drop_of_length-le, rules}
-use Rattle.rows.specs.Rows.{first_bad}
+use Rattle.std.proofs.Common.{◌≡◌, [], drop, arith, drop_of_length-le}
 use Rattle.rows.proofs.Elements.{bad_next, bad_here}
 use Rattle.field128.specs.Field128.{p128, elements_of}
 use Rattle.field128.proofs.Pairs.{elements_length}

@@ -1,10 +1,8 @@
 -- `turboshake::Sponge::absorb` meets its contract. The invariant: the bytes that are left take the state to where all take the first one. Assumes nothing.
-use mathlib.Core.Path.{refl, ◌∙◌}
 use Prim.Native.Nat.{◌-◌, ◌≤◌, ◌<◌}
-use borrow.Author.Rules.{rules}
 use lib.ListN.{length}
 use Rattle.turboshake.specs.Stream.{sponge}
-use Rattle.turboshake.proofs.Moved.{Absorbs, absorbs_part, absorbs_none}
+use Rattle.turboshake.proofs.Moved.{Absorbs}
 use Rattle.turboshake.proofs.Sponge.absorb.Given as goal
 
 abbrev pub invariant-loop-i : goal.invariant-loop-i

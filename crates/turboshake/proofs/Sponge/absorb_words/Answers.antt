@@ -1,11 +1,9 @@
 -- `turboshake::Sponge::absorb_words` meets its contract. The invariant: the words that are left take the state to where all take the first one. Assumes nothing.
 use mathlib.Core.Path.{refl}
-use Prim.Native.Nat.{◌-◌, ◌≤◌, ◌<◌}
 use native.Mathlib.Omega.{arith}
 use borrow.Author.Rules.{rules}
-use lib.ListN.{length}
 use Rattle.turboshake.specs.Stream.{sponge}
-use Rattle.turboshake.proofs.Words.{AbsorbsWords, words_next, words_none}
+use Rattle.turboshake.proofs.Words.{words_next, words_none}
 use Rattle.turboshake.proofs.Sponge.absorb_words.Goals as goal
 
 pub loop-i-init : goal.loop-i-init

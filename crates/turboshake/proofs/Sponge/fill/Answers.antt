@@ -1,11 +1,11 @@
 -- `turboshake::Sponge::fill` meets its contract. The invariant: the first i bytes are drawn. Assumes nothing.
-use mathlib.Core.Path.{◌≡◌, refl}
-use Prim.Native.Nat.{◌-◌, ◌+◌, ◌≤◌, ◌<◌}
+use mathlib.Core.Path.{refl}
+use Prim.Native.Nat.{◌+◌, ◌≤◌}
 use native.Mathlib.Omega.{arith}
 use borrow.Author.Rules.{rules}
 use lib.ListN.{length}
 use Rattle.turboshake.specs.Stream.{sponge, after}
-use Rattle.turboshake.proofs.Drawn.{wrote_none, Draws, draws_next, draws_length, draws_all}
+use Rattle.turboshake.proofs.Drawn.{wrote_none, draws_next, draws_length, draws_all}
 use Rattle.turboshake.proofs.Sponge.fill.Goals as goal
 
 pub loop-i-init : goal.loop-i-init

@@ -1,11 +1,9 @@
 -- `turboshake::Sponge::fill` meets its contract. The invariant: the first i bytes are drawn. Assumes nothing.
-use mathlib.Core.Path.{◌≡◌, refl}
-use Prim.Native.Nat.{◌-◌, ◌+◌, ◌≤◌, ◌<◌}
-use native.Mathlib.Omega.{arith}
-use borrow.Author.Rules.{rules}
+use mathlib.Core.Path.{◌≡◌}
+use Prim.Native.Nat.{◌-◌, ◌≤◌, ◌<◌}
 use lib.ListN.{length}
-use Rattle.turboshake.specs.Stream.{sponge, after}
-use Rattle.turboshake.proofs.Drawn.{wrote_none, Draws, draws_next, draws_length, draws_all}
+use Rattle.turboshake.specs.Stream.{sponge}
+use Rattle.turboshake.proofs.Drawn.{Draws}
 use Rattle.turboshake.proofs.Sponge.fill.Given as goal
 
 abbrev pub invariant-loop-i : goal.invariant-loop-i

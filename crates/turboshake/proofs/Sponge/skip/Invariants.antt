@@ -1,11 +1,6 @@
 -- `turboshake::Sponge::skip` meets its contract. The invariant: the place stands for the bytes still to be skipped, from the block's first on. Assumes nothing.
-use mathlib.Core.Path.{◌≡◌, refl, sym, ap, ◌∙◌}
-use mathlib.Core.List.{List}
-use Prim.Native.Nat.{ℕ, ◌-◌, ◌<◌}
-use native.Mathlib.Omega.{arith}
-use borrow.Author.Rules.{rules}
+use mathlib.Core.Path.{◌≡◌}
 use Rattle.turboshake.specs.Stream.{sponge, after}
-use Rattle.turboshake.proofs.Drawn.{skip_start, skip_block, skip_end}
 use Rattle.turboshake.proofs.Sponge.skip.Given as goal
 
 abbrev pub invariant-loop-at : goal.invariant-loop-at

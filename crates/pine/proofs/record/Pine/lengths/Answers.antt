@@ -1,5 +1,4 @@
 -- `pine::record::Pine::lengths` meets its contract. Assumes nothing.
-use borrow.Author.Rules.{rules}
 use Rattle.pine.specs.Record.{lengths_main}
 use Rattle.pine.proofs.record.Pine.lengths.Goals as goal
 

@@ -1,5 +1,4 @@
 -- `pine::record::Pine::lengths_sq_norm_equal` meets its contract. Assumes nothing.
-use borrow.Author.Rules.{rules}
 use Rattle.pine.specs.Record.{lengths_norm}
 use Rattle.pine.proofs.record.Pine.lengths_sq_norm_equal.Goals as goal
 

@@ -1,5 +1,4 @@
 -- `pine::record::Pine::prove_rand_len` meets its contract. Assumes nothing.
-use borrow.Author.Rules.{rules}
 use native.Mathlib.Omega.{arith}
 use Rattle.pine.proofs.Sizes.{small}
 use Rattle.pine.proofs.record.Pine.prove_rand_len.Goals as goal

@@ -1,5 +1,4 @@
 -- `pine::record::Pine::verifier_len_sq_norm_equal` meets its contract. Assumes nothing.
-use borrow.Author.Rules.{rules}
 use native.Mathlib.Omega.{arith}
 use Rattle.pine.proofs.Sizes.{small}
 use Rattle.pine.proofs.record.Pine.verifier_len_sq_norm_equal.Goals as goal

@@ -1,8 +1,6 @@
 -- `pine::record::Pine::wr_test_bound` meets its contract: the shift loses nothing. Assumes nothing.
-use borrow.Author.Rules.{rules}
 use mathlib.Core.Path.{◌≡◌, sym, ◌∙◌}
 use mathlib.Core.Bool.{false}
-use Prim.Native.Nat.{◌<◌}
 use native.Mathlib.Omega.{arith}
 use Rattle.rules.specs.Rules.{out_of}
 use Rattle.rules.proofs.Chain.{within}
