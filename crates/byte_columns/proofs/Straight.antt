@@ -8,7 +8,6 @@ use lib.ListN.{length, get_or, take, drop, set}
 use lib.Dec.{lit<}
 use borrow.Author.Tests.{ne_eqb}
 use Rattle.field64.specs.Field.{p64}
-use Rattle.field64.specs.Sums.{total}
 use Rattle.sums.specs.declared.Total.{Total}
 use Rattle.sums.specs.Unreduced.{total_of}
 use Rattle.rows.proofs.Walk.{Walking}

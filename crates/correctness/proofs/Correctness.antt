@@ -8,12 +8,11 @@ use native.Mathlib.Omega.{arith}
 use lib.Dec.{ltb, lit<, lit≤}
 use lib.ListN.{length, get_or, take, replicate, length-replicate}
 use lib.Seq.{length-take-le, get_or-take}
-use lib.IntN.{ℤ, pos, negsuc, neg_ℤ, nat_abs, ◌+ℤ◌}
+use lib.IntN.{ℤ, pos, neg_ℤ, nat_abs, ◌+ℤ◌}
 use lib.Pow.{pow_pos}
 use lib.Ieee.{Float, binary64, round, of_int, neg, div}
 use lib.Ieee.Scale.{round_same}
 use Rattle.rules.specs.Rules.{accepted}
-use Rattle.field64.specs.Field.{p64}
 use Rattle.doubles.specs.Doubles.{mod_p, element, power, plus_zero, centred, decoded}
 use Rattle.doubles.proofs.Laws.{round_neg, div_power}
 use Rattle.doubles.proofs.Sense.{mod_p_below, size_within}

@@ -1,8 +1,8 @@
 -- The cases of the call: refused by a rule up to 9, by the norm, by the draws, or by the tests, or accepted. Assumes nothing.
-use mathlib.Core.Path.{◌≡◌, refl, sym, ap, subst, ◌∙◌}
+use mathlib.Core.Path.{◌≡◌, refl, sym, ap, ◌∙◌}
 use mathlib.Core.Bool.{Bool, true, false, cond}
 use mathlib.Core.List.{List, [], ◌∷◌, ◌++◌}
-use Prim.Native.Nat.{ℕ, zero, suc, ◌+◌, ◌*◌, ◌%◌, ◌≤◌, ◌<◌}
+use Prim.Native.Nat.{ℕ, zero, suc, ◌+◌, ◌%◌, ◌≤◌, ◌<◌}
 use native.Mathlib.Omega.{arith}
 use lib.ListN.{length, take, drop, take-append-drop}
 use lib.Seq.{take-add}
@@ -31,7 +31,7 @@ use Rattle.wr_joint_rand.proofs.Seeds.{stream_long}
 use Rattle.sampler.specs.Sampler.{draw_limit, values_of, sampled, draws_rule}
 use Rattle.shares.specs.Shares.{helper_stream, helper_share, wr_seed, vf_joint_rand}
 use Rattle.shares.proofs.Seeds.{rule_met}
-use Rattle.cut.specs.Cut.{wr_stream_of, leader_share, vf_seed, cut_outcome, cut_rules, cut_answer, cut_of}
+use Rattle.cut.specs.Cut.{wr_stream_of, leader_share, vf_seed, cut_outcome, cut_rules, cut_of}
 use Rattle.cut.specs.Late.{rows_answer, MetUpTo}
 
 -- a rule as the last of a chain

@@ -26,7 +26,7 @@ use Rattle.flp.specs.Bits.{bits}
 use Rattle.flp.specs.Encode.{elements, sq_norm, test_bits, results_of, measurement_of, encode_outcome, encode_rules, encode_answer, encode_of}
 use Rattle.flp.proofs.Tests.{length_tests}
 use Rattle.flp.proofs.Circuits.{length_test_bits}
-use Rattle.flp.proofs.Gradient.{length_elements, elements_below}
+use Rattle.flp.proofs.Gradient.{elements_below}
 use Rattle.turboshake.proofs.Shake.{shake_drawn, longer_begins}
 use Rattle.turboshake.proofs.Drawn.{length_drawn}
 use Rattle.xof.specs.Xof.{algorithm_id, dst, before_binder, xof_turbo_shake128}

@@ -8,7 +8,7 @@ use lib.ListN.{length}
 use lib.Dec.{leb, eqb}
 use borrow.Author.Tests.{eqb-false, leb-false}
 use Rattle.rules.specs.declared.Answer.{Answer}
-use Rattle.rules.specs.Rules.{answer, accepted, first}
+use Rattle.rules.specs.Rules.{accepted, first}
 use Rattle.rules.proofs.Chain.{first_refused, first_passed, first_assoc, refuse_last, passed, so, not_so}
 use Rattle.field64.specs.Field.{p64}
 use Rattle.pine.specs.declared.PineParam.{PineParam}

@@ -1,5 +1,5 @@
 -- A test on a row that stands for whole numbers: where each element is up a - down a modulo p, the result is the sum of these by the pairs of bits, modulo p. Assumes nothing.
-use Rattle.std.proofs.Common.{◌≡◌, ℕ, suc, ◌+◌, ◌-◌, ◌*◌, ◌%◌, ◌<◌, ◌≤◌, Bool, true, false, cond, eqb, List, [], ◌∷◌, map, length, sym, refl, ap, ◌∙◌, mod-eq_of_lt, suc-mul, arith}
+use Rattle.std.proofs.Common.{◌≡◌, ℕ, ◌+◌, ◌-◌, ◌*◌, ◌%◌, ◌<◌, ◌≤◌, Bool, true, false, cond, eqb, List, [], ◌∷◌, map, length, sym, refl, ap, ◌∙◌, mod-eq_of_lt, suc-mul, arith}
 use Rattle.field64.specs.Field.{add_mod, sub_mod}
 use Rattle.field64.specs.Sums.{evaluate}
 use Rattle.field64.proofs.Modular.{modular, add_both, cancel, sub_add}

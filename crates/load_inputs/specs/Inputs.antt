@@ -3,7 +3,6 @@ use Rattle.std.specs.Prelude.{ℕ, not, cond, List, [], ◌∷◌, get_or, eqb}
 use Rattle.rules.specs.declared.Answer.{Answer}
 use Rattle.rules.specs.Rules.{refuse, in_order}
 use Rattle.pine.specs.declared.PineParam.{PineParam}
-use Rattle.pine.specs.declared.WrTestRule.{WrTestRule}
 use Rattle.pine.specs.declared.WrTestRule.TheVariants.{Every, Enough}
 use Rattle.pine.specs.Param.{Field64, param_rules_up_to}
 

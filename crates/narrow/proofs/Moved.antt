@@ -1,14 +1,11 @@
 -- A result moved from one modulus to another is in range where it was, and is written as it was; so rows of them have the same rules and bits. Assumes nothing.
-use Rattle.std.proofs.Common.{◌≡◌, ℕ, suc, ◌+◌, ◌-◌, ◌*◌, ◌%◌, ◌<◌, ◌≤◌, Bool, true, false, cond, ◌||◌, ltb, leb, List, [], ◌∷◌, ◌++◌, map, sym, refl, ap, ◌∙◌, mod-eq_of_lt, arith, ltb-false, ltb-true, le-ltb, lt-ltb, le-leb, leb-false, leb-true}
+use Rattle.std.proofs.Common.{◌≡◌, ℕ, suc, ◌+◌, ◌-◌, ◌*◌, ◌%◌, ◌<◌, ◌≤◌, Bool, true, false, ltb, leb, List, [], ◌∷◌, map, sym, refl, ◌∙◌, mod-eq_of_lt, arith, ltb-false, ltb-true, le-ltb, lt-ltb, le-leb, leb-false, leb-true}
 use native.Mathlib.Nat.{add-mod_left}
 use borrow.Author.Tests.{lt-leb}
-use Rattle.rules.specs.declared.Answer.{Answer}
-use Rattle.rules.specs.Rules.{answer, refuse}
 use Rattle.pine.specs.declared.WrTestRule.{WrTestRule}
 use Rattle.pine.specs.declared.WrTestRule.TheVariants.{Every, Enough}
 use Rattle.rows.specs.Rows.{Below}
-use Rattle.flp.specs.Bits.{bits}
-use Rattle.flp.specs.Encode.{in_range, written, success, still_to_give, test_bits, count_in_range, every_rule, enough_rule, range_rule}
+use Rattle.flp.specs.Encode.{in_range, written, still_to_give, test_bits, count_in_range, every_rule, enough_rule, range_rule}
 use Rattle.narrow.specs.Narrow.{moved}
 
 -- once around n

@@ -1,6 +1,6 @@
 -- Field128 as the calls take it: its rows of words, what its accepted inputs have met, its room; and Field64's inputs over it. Assumes nothing.
 use mathlib.Core.Path.{◌≡◌, refl, sym, ap, ◌∙◌}
-use Prim.Native.Nat.{ℕ, ◌*◌, ◌<◌}
+use Prim.Native.Nat.{◌*◌, ◌<◌}
 use lib.Dec.{lit<, lit≤}
 use Rattle.rules.specs.declared.Answer.{Answer}
 use Rattle.rules.specs.Rules.{accepted}

@@ -1,5 +1,5 @@
 -- Field128 as the definitions of the calls take a field (docs/PINE.md, "The field"). Assumes nothing.
-use Rattle.std.specs.Prelude.{ℕ, ◌-◌, ◌*◌, ◌^◌}
+use Rattle.std.specs.Prelude.{◌-◌, ◌*◌, ◌^◌}
 use Rattle.pine.specs.Param.{Field}
 use Rattle.field128.specs.Field128.{p128, elements_of, words_of}
 

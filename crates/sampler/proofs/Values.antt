@@ -2,17 +2,16 @@
 use mathlib.Core.Path.{◌≡◌, refl, sym, ap, ap₂, ◌∙◌}
 use mathlib.Core.Bool.{Bool, true, false, cond}
 use mathlib.Core.List.{List, [], ◌∷◌, ◌++◌}
-use Prim.Native.Nat.{ℕ, zero, suc, ◌+◌, ◌-◌, ◌*◌, ◌≤◌, ◌<◌}
+use Prim.Native.Nat.{ℕ, suc, ◌+◌, ◌-◌, ◌*◌, ◌≤◌, ◌<◌}
 use native.Mathlib.Nat.{sub-zero}
 use native.Mathlib.Omega.{arith}
-use lib.ListN.{length, get_or, take, drop, length-append, length-drop, take-append-drop}
-use lib.Seq.{take_at, take-take, drop-drop, length-take-le}
-use lib.Dec.{ltb, leb}
+use lib.ListN.{length, take, drop, length-append, take-append-drop}
+use lib.Seq.{take_at, take-take, drop-drop}
+use lib.Dec.{ltb}
 use mir.Val.{bool_byte}
-use borrow.Author.Tests.{ltb-true, lt-ltb, le-ltb, lt-leb, le-leb}
-use Rattle.rules.specs.Rules.{answer, accepted, refuse}
+use borrow.Author.Tests.{ltb-true, le-ltb}
+use Rattle.rules.specs.Rules.{accepted}
 use Rattle.rows.specs.Rows.{Below}
-use Rattle.rows.proofs.Elements.{below_take}
 use Rattle.octets.specs.Octets.{from_bytes, elements_in}
 use Rattle.octets.proofs.Bytes.{length-elements_in, elements_in-drop, elements_in-take, elements_in_front}
 use Rattle.sampler.specs.Sampler.{draw_limit, kept_of, values_of, sampled, draws_rule}

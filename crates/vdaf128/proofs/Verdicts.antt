@@ -7,7 +7,7 @@ use lib.ListN.{length}
 use lib.Dec.{eqb}
 use lib.Ieee.{Float}
 use Rattle.rules.specs.declared.Answer.{Answer}
-use Rattle.rules.specs.Rules.{answer, accepted, first, in_order}
+use Rattle.rules.specs.Rules.{answer, accepted, first}
 use Rattle.rules.proofs.Chain.{passed, first_refused, first_passed, first_assoc, both}
 use Rattle.rows.specs.Rows.{row_rule, elements_rule, Below, add_rows}
 use Rattle.rows.specs.Outcome.{Outcome, outcome, finish}

@@ -1,8 +1,6 @@
 -- `byte_columns::plus_byte` meets its contract. Assumes nothing.
-use Prim.Native.Nat.{◌+◌, ◌*◌, ◌<◌}
+use Prim.Native.Nat.{◌+◌, ◌*◌}
 use native.Mathlib.Omega.{arith}
-use lib.ListN.{length}
-use borrow.Author.Rules.{rules}
 use Rattle.byte_columns.specs.ByteColumns.{Summed}
 use Rattle.byte_columns.proofs.Straight.{first_pair, second_pair, third_pair, fourth_pair}
 use Rattle.byte_columns.proofs.plus_byte.Lts as lts

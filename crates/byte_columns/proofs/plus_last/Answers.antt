@@ -1,8 +1,7 @@
 -- `byte_columns::plus_last` meets its contract. Assumes nothing.
-use Prim.Native.Nat.{◌+◌, ◌*◌, ◌<◌}
+use Prim.Native.Nat.{◌+◌, ◌*◌}
 use native.Mathlib.Omega.{arith}
 use lib.ListN.{length}
-use borrow.Author.Rules.{rules}
 use Rattle.byte_columns.specs.ByteColumns.{Summed}
 use Rattle.byte_columns.proofs.Straight.{summed_as, first_pair, second_pair, third_pair}
 use Rattle.byte_columns.proofs.plus_last.Lts as lts

@@ -1,6 +1,5 @@
 -- `byte_columns::plus_pair` meets its contract. Assumes nothing.
 use lib.ListN.{get_or}
-use borrow.Author.Rules.{rules}
 use Rattle.field64.specs.Field.{p64}
 use Rattle.sums.specs.Unreduced.{total_of}
 use Rattle.rows.proofs.Elements.{below_at}

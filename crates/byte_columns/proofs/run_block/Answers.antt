@@ -4,8 +4,7 @@ use Prim.Native.Nat.{◌+◌, ◌-◌, ◌*◌, ◌≤◌}
 use native.Mathlib.Omega.{arith}
 use borrow.Author.Rules.{rules}
 use lib.ListN.{length}
-use Rattle.rows.proofs.Walk.{Walking}
-use Rattle.byte_columns.proofs.Straight.{all_results, results_end, bytes_inside, part_long, results_next}
+use Rattle.byte_columns.proofs.Straight.{results_end, bytes_inside, part_long, results_next}
 use Rattle.byte_columns.proofs.run_block.Lts as lts
 use Rattle.byte_columns.proofs.run_block.Reads as reads
 use Rattle.byte_columns.proofs.run_block.Tie as tie

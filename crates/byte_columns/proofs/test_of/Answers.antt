@@ -1,10 +1,7 @@
 -- `byte_columns::test_of` meets its contract. Assumes nothing.
 use mathlib.Core.Path.{◌∙◌}
-use Prim.Native.Nat.{◌+◌, ◌-◌, ◌*◌, ◌/◌, ◌≤◌}
+use Prim.Native.Nat.{◌-◌}
 use native.Mathlib.Omega.{arith}
-use lib.ListN.{length}
-use borrow.Author.Rules.{rules}
-use Rattle.byte_columns.specs.ByteColumns.{Summed}
 use Rattle.byte_columns.proofs.Straight.{summed_none, summed_as, summed_all}
 use Rattle.byte_columns.proofs.test_of.Goals as goal
 

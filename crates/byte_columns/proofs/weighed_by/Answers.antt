@@ -1,8 +1,6 @@
 -- `byte_columns::weighed_by` meets its contract. Assumes nothing.
 use mathlib.Core.Path.{ap, ◌∙◌}
-use mathlib.Core.Logic.{⊎_elim}
 use Prim.Native.Nat.{ℕ, ◌%◌}
-use borrow.Author.Rules.{rules}
 use Rattle.field64.specs.Field.{p64}
 use Rattle.byte_columns.proofs.Straight.{three_adds, zero_subtracts, others_skip}
 use Rattle.byte_columns.proofs.weighed_by.Goals as goal
@@ -17,6 +15,6 @@ pub returns-else-pair-eq3 : goal.returns-else-pair-eq3
 returns-else-pair-eq3 c =
     let s = c in
     elim c.if-pair-eq0.branch [
-      then-pair-eq0 w ↦ ap (λ (n : ℕ). n % p64) w.subtracted-is ∙ zero_subtracts s.args.pair s.args.x w.if-pair-eq0.true
-    | else-pair-eq0 w ↦ ap (λ (n : ℕ). n % p64) w.subtracted-is ∙ others_skip s.args.pair s.args.x w.if-pair-eq0.false c.if-pair-eq3.false
+      | then-pair-eq0 w ↦ ap (λ (n : ℕ). n % p64) w.subtracted-is ∙ zero_subtracts s.args.pair s.args.x w.if-pair-eq0.true
+      | else-pair-eq0 w ↦ ap (λ (n : ℕ). n % p64) w.subtracted-is ∙ others_skip s.args.pair s.args.x w.if-pair-eq0.false c.if-pair-eq3.false
     ]

@@ -5,7 +5,6 @@ use native.Mathlib.Omega.{arith}
 use lib.ListN.{length}
 use lib.Seq.{length-take-le}
 use Rattle.groups.proofs.Swapped.{room_few, room_many}
-use borrow.Author.Rules.{rules}
 use Rattle.columns.proofs.add_group.Lts as lts
 use Rattle.columns.proofs.add_group.Reads as reads
 use Rattle.columns.proofs.add_group.Tie as tie

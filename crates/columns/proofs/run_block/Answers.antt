@@ -1,13 +1,10 @@
 -- `columns::run_block` meets its contract. Assumes nothing.
 use mathlib.Core.Path.{◌≡◌}
-use mathlib.Core.Logic.{⊎_elim}
 use Prim.Native.Nat.{ℕ, ◌≤◌, ◌<◌}
 use native.Mathlib.Omega.{arith}
 use lib.ListN.{length}
-use borrow.Author.Tests.{leb-true, leb-false}
 use Rattle.groups.specs.Groups.{room_for}
 use Rattle.groups.proofs.Swapped.{room_few, room_many}
-use borrow.Author.Rules.{rules}
 use Rattle.columns.proofs.run_block.Goals as goal
 use Rattle.columns.proofs.run_block.Goals.{then-few-3, else-few-3}
 
@@ -51,8 +48,11 @@ run_groups-requires-2 c =
     let tests = length s.args.results.now in
     record {
       per_in_bounds = s.requires.per_in_bounds;
-      below = (s.requires.below, elim c.if-few-3.branch [
-        then-few-3 w ↦ weights_fit tests _ w.if-few-3.true w.width-is
-      | else-few-3 w ↦ tables_fit tests _ w.if-few-3.false w.width-is
-      ]);
+      below = (
+        s.requires.below,
+        elim c.if-few-3.branch [
+          | then-few-3 w ↦ weights_fit tests _ w.if-few-3.true w.width-is
+          | else-few-3 w ↦ tables_fit tests _ w.if-few-3.false w.width-is
+        ],
+      );
     }

@@ -1,8 +1,7 @@
 -- `columns::run_groups` meets its contract: after the bytes before j, each result is over the first 4j coordinates. Assumes nothing.
-use mathlib.Core.Path.{◌≡◌, refl, ap, ◌∙◌}
+use mathlib.Core.Path.{refl, ap, ◌∙◌}
 use Prim.Native.Nat.{ℕ, ◌-◌, ◌*◌, ◌≤◌, ◌<◌}
 use native.Mathlib.Omega.{arith}
-use borrow.Author.Rules.{rules}
 use lib.ListN.{length, take, drop}
 use lib.Dec.{lit<}
 use Rattle.field64.specs.Field.{p64}

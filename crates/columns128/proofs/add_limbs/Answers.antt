@@ -1,6 +1,5 @@
 -- `columns128::add_limbs` meets its contract, by either form. Assumes nothing.
 use mathlib.Core.Path.{sym}
-use borrow.Author.Rules.{rules}
 use lib.ListN.{length}
 use Rattle.field128.specs.Field128.{elements_of}
 use Rattle.limbs.specs.Limbs.{limbs}

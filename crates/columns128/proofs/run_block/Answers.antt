@@ -1,9 +1,8 @@
 -- `columns128::run_block` meets its contract. Assumes nothing.
-use mathlib.Core.Path.{◌≡◌, sym, ◌∙◌}
+use mathlib.Core.Path.{sym, ◌∙◌}
 use Prim.Native.Nat.{ℕ, ◌/◌, ◌≤◌}
 use native.Mathlib.Omega.{arith}
 use lib.ListN.{length}
-use borrow.Author.Rules.{rules}
 use Rattle.field128.proofs.Pairs.{elements_length}
 use Rattle.groups.proofs.Swapped.{same_room}
 use Rattle.limbs.proofs.Summed.{zeros_long}

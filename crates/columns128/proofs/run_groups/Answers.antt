@@ -1,17 +1,16 @@
 -- `columns128::run_groups` meets its contract: after the bytes before j, each sum is over the first 4j coordinates. Assumes nothing.
 use mathlib.Core.Path.{◌≡◌, refl, sym, ap, ◌∙◌}
-use Prim.Native.Nat.{ℕ, ◌-◌, ◌*◌, ◌≤◌, ◌<◌}
+use Prim.Native.Nat.{ℕ, ◌-◌, ◌*◌, ◌≤◌}
 use native.Mathlib.Omega.{arith}
-use borrow.Author.Rules.{rules}
 use lib.Seq.{length_front}
-use lib.ListN.{length, take, drop}
+use lib.ListN.{length}
 use Rattle.field128.specs.Field128.{elements_of}
 use Rattle.field128.proofs.Pairs.{elements_length}
 use Rattle.groups.specs.Groups.{group_from}
 use Rattle.groups.proofs.Swapped.{Fits, group_fits, row_long, same_room}
 use Rattle.limbs.specs.Limbs.{limbs, modulus_for}
 use Rattle.limbs.proofs.Words.{length_limbs}
-use Rattle.limbs.proofs.Summed.{Summed, summed_start, summed_below, summed_next, summed_end}
+use Rattle.limbs.proofs.Summed.{summed_start, summed_below, summed_next, summed_end}
 use Rattle.columns128.proofs.Sums.{part_long, words_inside, part_limbs, positive, below_by, added_by, tests_by, width_most, fits_by}
 use Rattle.columns128.proofs.run_groups.Lts as lts
 use Rattle.columns128.proofs.run_groups.Reads as reads
@@ -117,9 +116,9 @@ add_limbs-requires c =
       part_len_bound = (rw long (fits g.before.before.before.before.before.before.before.before.before.before.before).few_coordinates, fit.1);
       middle_len = (sums.1.0.0 ∙ sym sums.0.0, sums.1.1.0 ∙ sym sums.0.0);
       below = (
-              below_by _ _ l.loop-j.low m (summed_below _ s.args.per s.args.stream.now (limbs 0 xs) (positive T₀) _ l.loop-j.j l.loop-j.low sums.0),
-              (below_by _ _ l.loop-j.middle m (summed_below _ s.args.per s.args.stream.now (limbs 1 xs) (positive T₀) _ l.loop-j.j l.loop-j.middle sums.1.0), below_by _ _ l.loop-j.high m (summed_below _ s.args.per s.args.stream.now (limbs 2 xs) (positive T₀) _ l.loop-j.j l.loop-j.high sums.1.1)),
-            );
+        below_by _ _ l.loop-j.low m (summed_below _ s.args.per s.args.stream.now (limbs 0 xs) (positive T₀) _ l.loop-j.j l.loop-j.low sums.0),
+        (below_by _ _ l.loop-j.middle m (summed_below _ s.args.per s.args.stream.now (limbs 1 xs) (positive T₀) _ l.loop-j.j l.loop-j.middle sums.1.0), below_by _ _ l.loop-j.high m (summed_below _ s.args.per s.args.stream.now (limbs 2 xs) (positive T₀) _ l.loop-j.j l.loop-j.high sums.1.1)),
+      );
     }
 
 pub loop-j-smaller : goal.loop-j-smaller

@@ -1,18 +1,10 @@
 -- `columns128::run_groups` meets its contract: after the bytes before j, each sum is over the first 4j coordinates. Assumes nothing.
-use mathlib.Core.Path.{◌≡◌, refl, sym, ap, ◌∙◌}
-use Prim.Native.Nat.{ℕ, ◌-◌, ◌*◌, ◌≤◌, ◌<◌}
-use native.Mathlib.Omega.{arith}
-use borrow.Author.Rules.{rules}
-use lib.Seq.{length_front}
-use lib.ListN.{length, take, drop}
+use mathlib.Core.Path.{◌≡◌}
+use Prim.Native.Nat.{◌-◌, ◌≤◌}
+use lib.ListN.{length}
 use Rattle.field128.specs.Field128.{elements_of}
-use Rattle.field128.proofs.Pairs.{elements_length}
-use Rattle.groups.specs.Groups.{group_from}
-use Rattle.groups.proofs.Swapped.{Fits, group_fits, row_long, same_room}
 use Rattle.limbs.specs.Limbs.{limbs, modulus_for}
-use Rattle.limbs.proofs.Words.{length_limbs}
-use Rattle.limbs.proofs.Summed.{Summed, summed_start, summed_below, summed_next, summed_end}
-use Rattle.columns128.proofs.Sums.{part_long, words_inside, part_limbs, positive, below_by, added_by, tests_by, width_most, fits_by}
+use Rattle.limbs.proofs.Summed.{Summed}
 use Rattle.columns128.proofs.run_groups.Given as goal
 
 abbrev pub invariant-loop-j : goal.invariant-loop-j

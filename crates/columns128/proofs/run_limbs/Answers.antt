@@ -2,7 +2,6 @@
 use mathlib.Core.Path.{sym, ap, ◌∙◌}
 use lib.ListN.{length}
 use lib.Dec.{leb}
-use borrow.Author.Rules.{rules}
 use Rattle.field128.specs.Field128.{elements_of, words_of}
 use Rattle.flp.proofs.Tests.{results_below}
 use Rattle.limbs.specs.Limbs.{limbs, modulus_for}

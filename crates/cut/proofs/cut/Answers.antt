@@ -1,8 +1,7 @@
 -- `cut::cut` meets its contract. Assumes nothing.
-use borrow.Author.Rules.{rules}
 use mathlib.Core.Path.{◌≡◌, sym, ap, ◌∙◌}
 use Rattle.rules.specs.declared.Answer.{Answer}
-use Rattle.rules.specs.Rules.{accepted, in_order}
+use Rattle.rules.specs.Rules.{in_order}
 use Rattle.pine.specs.Param.{Field64, param_answer}
 use Rattle.pine.proofs.Limits.{param_accepted}
 use Rattle.pine.proofs.Sizes.{derivable_64, scale_is}

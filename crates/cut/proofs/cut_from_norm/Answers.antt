@@ -1,12 +1,9 @@
 -- `cut::cut_from_norm` meets its contract. Assumes nothing.
-use borrow.Author.Rules.{rules}
 use mathlib.Core.Path.{◌≡◌, sym, ap, subst, ◌∙◌}
 use Prim.Native.Nat.{ℕ}
 use native.Mathlib.Omega.{arith}
-use lib.ListN.{length}
 use lib.Dec.{lit<}
 use borrow.Author.Tests.{not-true, not-false}
-use Rattle.field64.specs.Field.{p64}
 use Rattle.sums.specs.Unreduced.{words_of}
 use Rattle.doubles.specs.Doubles.{floor_limit64}
 use Rattle.pine.specs.declared.record.Pine.{Pine}
@@ -17,7 +14,6 @@ use Rattle.flp.specs.Encode.{true_sq_norm_of}
 use Rattle.measurement.specs.Parts.{Usable}
 use Rattle.cut.specs.Late.{MetUpTo}
 use Rattle.cut.proofs.Cutting.{Ready, ready, norm_is, norm_refused, norm_met, draws_refused, draws_accepted, draws_met}
-use mathlib.Core.Bool.{not}
 use Rattle.cut.proofs.cut_from_norm.Lts as lts
 use Rattle.cut.proofs.cut_from_norm.Reads as reads
 use Rattle.cut.proofs.cut_from_norm.Tie as tie

@@ -1,5 +1,4 @@
 -- `cut::squared_norm` meets its contract. Assumes nothing.
-use borrow.Author.Rules.{rules}
 use native.Mathlib.Omega.{arith}
 use Rattle.cut.proofs.squared_norm.Goals as goal
 

@@ -5,7 +5,6 @@ use native.Mathlib.Omega.{arith}
 use borrow.Author.Tests.{ne_eqb}
 use Rattle.entries.specs.File.{file_len}
 use Rattle.day_file.proofs.Effects.{past_six}
-use borrow.Author.Rules.{rules}
 use Rattle.day_file.proofs.check_file_len.Goals as goal
 
 short : (len d n : ℕ) → len < 6 → len ≡ file_len d n → ⊥

@@ -1,6 +1,5 @@
 -- `day_file::check_read` meets its contract. Assumes nothing.
 use Rattle.day_file.proofs.Verdicts.{dimension_limits, read_inputs, read_lens, read_file}
-use borrow.Author.Rules.{rules}
 use Rattle.day_file.proofs.check_read.Goals as goal
 
 pub returns-then-inputs-ne0 : goal.returns-then-inputs-ne0

@@ -1,5 +1,4 @@
 -- `day_file::check_rows` meets its contract. Assumes nothing.
-use borrow.Author.Rules.{rules}
 use Rattle.day_file.proofs.check_rows.Goals as goal
 
 pub returns-then-is_rows : goal.returns-then-is_rows

@@ -5,7 +5,6 @@ use lib.ListN.{length}
 use Rattle.rows.proofs.Lengths.{row_right}
 use Rattle.rules.proofs.Chain.{both}
 use Rattle.day_file.proofs.Verdicts.{number, dimension_limits, write_inputs, write_lens, write_rows}
-use borrow.Author.Rules.{rules}
 use Rattle.day_file.proofs.check_write.Goals as goal
 
 pub returns-then-inputs-ne0 : goal.returns-then-inputs-ne0

@@ -1,5 +1,4 @@
 -- `day_file::check_write_lens` meets its contract. Assumes nothing.
-use borrow.Author.Rules.{rules}
 use Rattle.day_file.proofs.check_write_lens.Goals as goal
 
 pub returns : goal.returns

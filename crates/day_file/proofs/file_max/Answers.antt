@@ -3,7 +3,6 @@ use native.Mathlib.Omega.{arith}
 use borrow.Author.Tests.{eq-eqb, ne_eqb}
 use Rattle.day_file.specs.Calls.{max_of}
 use Rattle.day_file.proofs.Verdicts.{dimension_limits}
-use borrow.Author.Rules.{rules}
 use Rattle.day_file.proofs.file_max.Goals as goal
 
 pub returns-then-answer-ne0 : goal.returns-then-answer-ne0

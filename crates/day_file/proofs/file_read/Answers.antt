@@ -3,7 +3,6 @@ use Prim.Native.Nat.{◌+◌, ◌≤◌}
 use native.Mathlib.Omega.{arith}
 use lib.ListN.{length}
 use Rattle.day_file.proofs.Effects.{read_refused, read_fits, read_rest, read_done}
-use borrow.Author.Rules.{rules}
 use Rattle.day_file.proofs.file_read.Lts as lts
 use Rattle.day_file.proofs.file_read.Reads as reads
 use Rattle.day_file.proofs.file_read.Tie as tie

@@ -1,6 +1,5 @@
 -- `day_file::file_write` meets its contract. Assumes nothing.
 use Rattle.day_file.proofs.Effects.{write_refused, write_fits, write_done}
-use borrow.Author.Rules.{rules}
 use Rattle.day_file.proofs.file_write.Goals as goal
 
 pub returns-then-answer-ne0 : goal.returns-then-answer-ne0

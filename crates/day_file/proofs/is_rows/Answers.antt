@@ -1,7 +1,6 @@
 -- `day_file::is_rows` meets its contract. Assumes nothing.
 use Rattle.field64.specs.Field.{p64}
 use Rattle.layout.proofs.Tests.{rows_many, rows_rise, rows_fall, none_carries}
-use borrow.Author.Rules.{rules}
 use Rattle.day_file.proofs.is_rows.Goals as goal
 
 pub returns-then-count-gt1024 : goal.returns-then-count-gt1024

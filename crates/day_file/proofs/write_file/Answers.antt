@@ -4,7 +4,6 @@ use Prim.Native.Nat.{ℕ, ◌+◌}
 use lib.ListN.{length}
 use Rattle.octets.specs.Octets.{pasted}
 use Rattle.day_file.proofs.Effects.{file_written}
-use borrow.Author.Rules.{rules}
 use Rattle.day_file.proofs.write_file.Goals as goal
 
 pub returns : goal.returns

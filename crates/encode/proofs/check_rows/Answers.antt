@@ -1,5 +1,4 @@
 -- `encode::check_rows` meets its contract. Assumes nothing.
-use borrow.Author.Rules.{rules}
 use Rattle.encode.proofs.check_rows.Goals as goal
 
 pub returns : goal.returns

@@ -1,5 +1,4 @@
 -- `encode::finish` meets its contract. Assumes nothing.
-use borrow.Author.Rules.{rules}
 use native.Mathlib.Omega.{arith}
 use native.Mathlib.Nat.{mod-lt}
 use mathlib.Core.Path.{sym, subst, ◌∙◌}

@@ -1,7 +1,6 @@
 -- `encode128::check_rows` meets its contract. Assumes nothing.
 use Rattle.pine.proofs.Sizes.{scale_is}
 use Rattle.encode128.proofs.Rows.{words_fit}
-use borrow.Author.Rules.{rules}
 use Rattle.encode128.proofs.check_rows.Goals as goal
 
 pub overflow_mul-pine : goal.overflow_mul-pine

@@ -13,7 +13,6 @@ use Rattle.params128.specs.Field128.{Field128}
 use Rattle.params128.proofs.Limits.{derivable_128}
 use Rattle.encode.proofs.Encoding.{fraction_is, stream_is, early_is, early_refused, inputs_refused, early_met}
 use Rattle.encode128.proofs.Found.{met_rules, coordinates_fit, tests, asked, below, exact, room_for, whole}
-use borrow.Author.Rules.{rules}
 use Rattle.encode128.proofs.encode_in.Lts as lts
 use Rattle.encode128.proofs.encode_in.Reads as reads
 use Rattle.encode128.proofs.encode_in.Tie as tie

@@ -3,7 +3,6 @@ use mathlib.Core.Path.{sym, ◌∙◌}
 use native.Mathlib.Omega.{arith}
 use Rattle.gradient.proofs.Norm.{part_long}
 use Rattle.encode128.proofs.Rows.{halves}
-use borrow.Author.Rules.{rules}
 use Rattle.encode128.proofs.encode_with_wr_joint_rand.Goals as goal
 
 pub slice_bounds-encode_in-end : goal.slice_bounds-encode_in-end

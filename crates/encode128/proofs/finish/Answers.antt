@@ -11,7 +11,6 @@ use Rattle.measurement.specs.Parts.{Usable}
 use Rattle.encode.proofs.Encoding.{fraction_is}
 use Rattle.encode128.proofs.Narrowed.{bound_small, positive, refused, asked, done}
 use Rattle.encode128.proofs.Rows.{found_long}
-use borrow.Author.Rules.{rules}
 use Rattle.encode128.proofs.finish.Goals as goal
 
 pub narrow_results-requires : goal.narrow_results-requires

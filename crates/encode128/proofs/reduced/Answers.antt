@@ -3,7 +3,6 @@ use mathlib.Core.Path.{ap, ◌∙◌}
 use Prim.Native.Nat.{ℕ, ◌*◌, ◌%◌, ◌^◌}
 use Rattle.field128.specs.Field128.{p128}
 use Rattle.encode128.proofs.Narrowed.{three_words}
-use borrow.Author.Rules.{rules}
 use Rattle.encode128.proofs.reduced.Goals as goal
 
 pub returns : goal.returns

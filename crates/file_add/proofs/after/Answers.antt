@@ -1,6 +1,5 @@
 -- `file_add::after` meets its contract. Assumes nothing.
 use native.Mathlib.Nat.{add-zero}
-use borrow.Author.Rules.{rules}
 use Rattle.file_add.proofs.after.Goals as goal
 
 pub returns-then-place : goal.returns-then-place

@@ -3,7 +3,6 @@ use native.Mathlib.Omega.{arith}
 use Rattle.rows.proofs.Elements.{below_all}
 use Rattle.file_add.proofs.Verdicts.{add_inputs, add_lens, add_file, file_is, add_report}
 use Rattle.day_file.proofs.Verdicts.{dimension_limits}
-use borrow.Author.Rules.{rules}
 use Rattle.file_add.proofs.check_add.Goals as goal
 
 pub returns-then-inputs-ne0 : goal.returns-then-inputs-ne0

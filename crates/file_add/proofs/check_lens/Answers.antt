@@ -1,5 +1,4 @@
 -- `file_add::check_lens` meets its contract. Assumes nothing.
-use borrow.Author.Rules.{rules}
 use Rattle.file_add.proofs.check_lens.Goals as goal
 
 pub returns : goal.returns

@@ -1,5 +1,4 @@
 -- `file_add::check_place` meets its contract. Assumes nothing.
-use borrow.Author.Rules.{rules}
 use Rattle.file_add.proofs.check_place.Goals as goal
 
 pub returns : goal.returns

@@ -1,5 +1,4 @@
 -- `file_add::check_report` meets its contract. Assumes nothing.
-use borrow.Author.Rules.{rules}
 use Rattle.file_add.proofs.check_report.Goals as goal
 
 pub returns : goal.returns

@@ -6,7 +6,6 @@ use lib.ListN.{take, drop}
 use Rattle.field64.specs.Field.{p64}
 use Rattle.file_add.specs.Steps.{place_of}
 use Rattle.file_add.proofs.Places.{contents_fit, contents_long, contents_rise, place_in_lem}
-use borrow.Author.Rules.{rules}
 use Rattle.file_add.proofs.place_in.Goals as goal
 
 pub slice_bounds-place_of-end : goal.slice_bounds-place_of-end

@@ -1,7 +1,6 @@
 -- `file_add::place_of` meets its contract. Assumes nothing.
 use native.Mathlib.Omega.{arith}
 use Rattle.file_add.proofs.Places.{place_held, place_other, place_past}
-use borrow.Author.Rules.{rules}
 use Rattle.file_add.proofs.place_of.Goals as goal
 
 pub returns-then-there-key : goal.returns-then-there-key

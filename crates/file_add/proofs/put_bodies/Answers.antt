@@ -8,7 +8,6 @@ use Rattle.rows.proofs.Blocks.{rest_is}
 use Rattle.octets.specs.Octets.{element_bytes, pasted}
 use Rattle.file_add.specs.Steps.{body_with}
 use Rattle.file_add.proofs.Written.{three_pasted, front_is, body_long}
-use borrow.Author.Rules.{rules}
 use Rattle.file_add.proofs.put_bodies.Goals as goal
 
 pub put_body-rest_at-requires : goal.put_body-rest_at-requires

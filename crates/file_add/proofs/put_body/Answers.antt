@@ -1,6 +1,5 @@
 -- `file_add::put_body` meets its contract. Assumes nothing.
 use borrow.Author.Tests.{eq-eqb, ne_eqb}
-use borrow.Author.Rules.{rules}
 use Rattle.file_add.proofs.put_body.Goals as goal
 
 pub returns-then-old-eq0 : goal.returns-then-old-eq0

@@ -8,7 +8,6 @@ use Rattle.rows.proofs.Blocks.{rest_is}
 use Rattle.octets.specs.Octets.{to_bytes, pasted}
 use Rattle.octets.proofs.Bytes.{length_to_bytes}
 use Rattle.file_add.proofs.Written.{four_pasted, front_is}
-use borrow.Author.Rules.{rules}
 use Rattle.file_add.proofs.put_contents.Goals as goal
 
 pub returns : goal.returns

@@ -1,6 +1,5 @@
 -- `file_add::reports_at` meets its contract. Assumes nothing.
 use Rattle.file_add.proofs.Places.{reports_four}
-use borrow.Author.Rules.{rules}
 use Rattle.file_add.proofs.reports_at.Goals as goal
 
 pub returns : goal.returns

@@ -12,7 +12,6 @@ use Rattle.octets.specs.Octets.{elements_in}
 use Rattle.octets.proofs.Bytes.{length_to_bytes}
 use Rattle.file_add.specs.Steps.{contents_with}
 use Rattle.file_add.proofs.Ready.{few, old_long, index_small, order, C_long, R_long, products, small_products, part_ok, added_written}
-use borrow.Author.Rules.{rules}
 use Rattle.file_add.proofs.write_added.Lts as lts
 use Rattle.file_add.proofs.write_added.Reads as reads
 use Rattle.file_add.proofs.write_added.Tie as tie

@@ -2,7 +2,6 @@
 use mathlib.Core.Path.{refl}
 use native.Mathlib.Omega.{arith}
 use borrow.Author.Tests.{le-leb, lt-leb}
-use borrow.Author.Rules.{rules}
 use Rattle.file_size.proofs.begin.Goals as goal
 
 pub returns-then-n-ge1024 : goal.returns-then-n-ge1024

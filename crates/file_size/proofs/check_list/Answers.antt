@@ -1,5 +1,4 @@
 -- `file_size::check_list` meets its contract. Assumes nothing.
-use borrow.Author.Rules.{rules}
 use Rattle.file_size.proofs.check_list.Goals as goal
 
 pub returns : goal.returns

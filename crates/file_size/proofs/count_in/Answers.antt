@@ -1,14 +1,13 @@
 -- `file_size::count_in` meets its contract. Assumes nothing.
 use mathlib.Core.Path.{◌≡◌, refl, sym, ◌∙◌}
-use mathlib.Core.List.{List, []}
-use Prim.Native.Nat.{ℕ, ◌+◌, ◌-◌, ◌*◌, ◌/◌, ◌≤◌, ◌<◌}
+use mathlib.Core.List.{List}
+use Prim.Native.Nat.{ℕ, ◌+◌, ◌-◌, ◌*◌, ◌/◌, ◌<◌}
 use native.Mathlib.Omega.{arith}
 use lib.ListN.{length, get_or, take, drop}
 use Rattle.octets.proofs.Pasted.{part_long}
 use Rattle.entries.specs.File.{key_in}
-use Rattle.file_size.specs.Steps.{run_of, numbers_in, Holding}
+use Rattle.file_size.specs.Steps.{numbers_in}
 use Rattle.file_size.proofs.Steps.{length_numbers, numbers_at, run_next, run_stops, run_end, hold_none}
-use borrow.Author.Rules.{rules}
 use Rattle.file_size.proofs.count_in.Goals as goal
 
 here : (total : ℕ) (bs : List ℕ) (i k : ℕ) → i < total → k ≡ key_in (take (8 * i + 8 - 8 * i) (drop (8 * i) bs)) → k ≡ get_or (numbers_in total bs) i 0

@@ -1,14 +1,9 @@
 -- `file_size::count_in` meets its contract. Assumes nothing.
-use mathlib.Core.Path.{◌≡◌, refl, sym, ◌∙◌}
-use mathlib.Core.List.{List, []}
-use Prim.Native.Nat.{ℕ, ◌+◌, ◌-◌, ◌*◌, ◌/◌, ◌≤◌, ◌<◌}
-use native.Mathlib.Omega.{arith}
-use lib.ListN.{length, get_or, take, drop}
-use Rattle.octets.proofs.Pasted.{part_long}
-use Rattle.entries.specs.File.{key_in}
+use mathlib.Core.Path.{◌≡◌}
+use mathlib.Core.List.{[]}
+use Prim.Native.Nat.{◌-◌, ◌≤◌}
+use lib.ListN.{take, drop}
 use Rattle.file_size.specs.Steps.{run_of, numbers_in, Holding}
-use Rattle.file_size.proofs.Steps.{length_numbers, numbers_at, run_next, run_stops, run_end, hold_none}
-use borrow.Author.Rules.{rules}
 use Rattle.file_size.proofs.count_in.Given as goal
 
 abbrev pub invariant-loop-i : goal.invariant-loop-i

@@ -1,11 +1,10 @@
 -- `file_size::find` meets its contract. Assumes nothing.
 use mathlib.Core.Path.{sym}
-use Prim.Native.Nat.{◌+◌, ◌-◌, ◌/◌, ◌≤◌}
+use Prim.Native.Nat.{◌+◌, ◌-◌, ◌/◌}
 use native.Mathlib.Omega.{arith}
 use lib.ListN.{take}
 use lib.Seq.{length-take-le, get_or-take}
-use Rattle.entries.proofs.Searching.{Between, between_start, between_up, between_down, between_end}
-use borrow.Author.Rules.{rules}
+use Rattle.entries.proofs.Searching.{between_start, between_up, between_down, between_end}
 use Rattle.file_size.proofs.find.Goals as goal
 
 pub loop-low-init : goal.loop-low-init

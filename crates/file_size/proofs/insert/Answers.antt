@@ -1,8 +1,7 @@
 -- `file_size::insert` meets its contract. Assumes nothing.
 use native.Mathlib.Omega.{arith}
-use Prim.Native.Nat.{◌+◌, ◌-◌}
-use Rattle.file_size.proofs.Moved.{Moving, moving_start, moving_next, moving_end}
-use borrow.Author.Rules.{rules}
+use Prim.Native.Nat.{◌-◌}
+use Rattle.file_size.proofs.Moved.{moving_start, moving_next, moving_end}
 use Rattle.file_size.proofs.insert.Goals as goal
 
 pub loop-at-init : goal.loop-at-init

@@ -1,8 +1,6 @@
 -- `file_size::insert` meets its contract. Assumes nothing.
-use native.Mathlib.Omega.{arith}
 use Prim.Native.Nat.{◌+◌, ◌-◌}
-use Rattle.file_size.proofs.Moved.{Moving, moving_start, moving_next, moving_end}
-use borrow.Author.Rules.{rules}
+use Rattle.file_size.proofs.Moved.{Moving}
 use Rattle.file_size.proofs.insert.Given as goal
 
 abbrev pub invariant-loop-at : goal.invariant-loop-at

@@ -1,6 +1,5 @@
 -- `file_size::is_at` meets its contract. Assumes nothing.
 use Rattle.file_size.proofs.Steps.{at_is, at_none}
-use borrow.Author.Rules.{rules}
 use Rattle.file_size.proofs.is_at.Goals as goal
 
 pub returns-then-i-n : goal.returns-then-i-n

@@ -1,7 +1,6 @@
 -- `file_size::size_up_to` meets its contract. Assumes nothing.
 use native.Mathlib.Omega.{arith}
 use Rattle.file_size.proofs.Sizes.{size_refused, size_dimension, size_stops, size_done}
-use borrow.Author.Rules.{rules}
 use Rattle.file_size.proofs.size_up_to.Goals as goal
 
 pub returns-then-inputs-ne0 : goal.returns-then-inputs-ne0

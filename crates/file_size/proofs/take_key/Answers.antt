@@ -4,7 +4,6 @@ use native.Mathlib.Omega.{arith}
 use lib.ListN.{take}
 use lib.Seq.{length-take-le}
 use Rattle.file_size.proofs.Steps.{held_inside, index_below, count_fits, stepped_again, stepped_begun}
-use borrow.Author.Rules.{rules}
 use Rattle.file_size.proofs.take_key.Goals as goal
 
 pub again-requires : goal.again-requires

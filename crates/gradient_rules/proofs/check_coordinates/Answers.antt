@@ -1,5 +1,4 @@
 -- `gradient_rules::check_coordinates` meets its contract. Assumes nothing.
-use borrow.Author.Rules.{rules}
 use mathlib.Core.Path.{◌∙◌}
 use Rattle.gradient_rules.proofs.check_coordinates.Goals as goal
 

@@ -1,6 +1,5 @@
 -- `gradient_rules::check_enough` meets its contract. Assumes nothing.
 use mathlib.Core.Path.{◌∙◌}
-use borrow.Author.Rules.{rules}
 use Rattle.flp.specs.Encode.{enough_rule}
 use Rattle.gradient_rules.proofs.check_enough.Goals as goal
 

@@ -1,6 +1,5 @@
 -- `gradient_rules::check_every` meets its contract. Assumes nothing.
 use mathlib.Core.Path.{sym, ◌∙◌}
-use borrow.Author.Rules.{rules}
 use Rattle.field64.specs.Field.{p64}
 use Rattle.gradient_rules.proofs.Searches.{every_counted}
 use Rattle.gradient_rules.proofs.check_every.Goals as goal

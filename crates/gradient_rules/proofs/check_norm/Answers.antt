@@ -1,6 +1,5 @@
 -- `gradient_rules::check_norm` meets its contract. Assumes nothing.
 use mathlib.Core.Path.{◌∙◌}
-use borrow.Author.Rules.{rules}
 use Rattle.rules.specs.Rules.{first}
 use Rattle.gradient_rules.proofs.check_norm.Goals as goal
 

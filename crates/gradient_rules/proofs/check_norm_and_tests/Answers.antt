@@ -1,6 +1,5 @@
 -- `gradient_rules::check_norm_and_tests` meets its contract. Assumes nothing.
 use mathlib.Core.Path.{◌≡◌, ap₂, ◌∙◌}
-use borrow.Author.Rules.{rules}
 use Rattle.rules.specs.declared.Answer.{Answer}
 use Rattle.rules.specs.Rules.{first}
 use Rattle.rules.proofs.Chain.{first_assoc}

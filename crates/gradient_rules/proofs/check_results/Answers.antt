@@ -1,6 +1,5 @@
 -- `gradient_rules::check_results` meets its contract. Assumes nothing.
 use mathlib.Core.Path.{sym, ap, ◌∙◌}
-use borrow.Author.Rules.{rules}
 use Rattle.field64.specs.Field.{p64}
 use Rattle.pine.specs.declared.WrTestRule.{WrTestRule}
 use Rattle.flp.specs.Encode.{range_rule}

@@ -1,6 +1,5 @@
 -- `gradient_rules::check_true_norm` meets its contract. Assumes nothing.
 use mathlib.Core.Path.{◌∙◌}
-use borrow.Author.Rules.{rules}
 use Rattle.gradient_rules.proofs.check_true_norm.Goals as goal
 
 pub returns-then-on : goal.returns-then-on

@@ -1,12 +1,9 @@
 -- `gradient_rules::count_in_range` meets its contract. The invariant: those counted, and those in the rest. Assumes nothing.
 use mathlib.Core.Path.{◌≡◌}
 use Prim.Native.Nat.{◌+◌, ◌-◌, ◌≤◌}
-use native.Mathlib.Omega.{arith}
-use borrow.Author.Rules.{rules}
 use lib.ListN.{length, drop}
 use Rattle.field64.specs.Field.{p64}
 use Rattle.flp.specs.Encode.{count_in_range}
-use Rattle.gradient_rules.proofs.Searches.{one_at_most, count_next, count_end}
 use Rattle.gradient_rules.proofs.count_in_range.Given as goal
 
 abbrev pub invariant-loop-t : goal.invariant-loop-t

@@ -1,13 +1,9 @@
 -- `gradient_rules::count_refused` meets its contract. The invariant: as long as none is counted, the answer for the gradient is that for the rest. Assumes nothing.
-use mathlib.Core.Path.{◌≡◌, refl}
+use mathlib.Core.Path.{◌≡◌}
 use Prim.Native.Nat.{◌-◌, ◌≤◌}
-use native.Mathlib.Omega.{arith}
-use borrow.Author.Rules.{rules}
-use lib.ListN.{length, get_or, drop}
-use lib.Ieee.{nan}
-use Rattle.doubles.specs.Doubles.{floor_limit64, coordinate_rule}
+use lib.ListN.{length, drop}
+use Rattle.doubles.specs.Doubles.{floor_limit64}
 use Rattle.flp.specs.Encode.{coordinates_rule}
-use Rattle.gradient_rules.proofs.Searches.{coordinates_next, coordinates_end}
 use Rattle.gradient_rules.proofs.count_refused.Given as goal
 
 abbrev pub invariant-loop-i : goal.invariant-loop-i

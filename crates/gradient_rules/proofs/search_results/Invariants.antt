@@ -1,12 +1,9 @@
 -- `gradient_rules::search_results` meets its contract. The invariant: the answer for the results is that for the rest, counted from t. Assumes nothing.
-use mathlib.Core.Path.{◌≡◌, refl, ◌∙◌}
+use mathlib.Core.Path.{◌≡◌}
 use Prim.Native.Nat.{◌-◌, ◌≤◌}
-use native.Mathlib.Omega.{arith}
-use borrow.Author.Rules.{rules}
 use lib.ListN.{length, drop}
 use Rattle.field64.specs.Field.{p64}
 use Rattle.flp.specs.Encode.{every_rule}
-use Rattle.gradient_rules.proofs.Searches.{every_next, every_stop, every_end}
 use Rattle.gradient_rules.proofs.search_results.Given as goal
 
 abbrev pub invariant-loop-t : goal.invariant-loop-t

@@ -1,5 +1,4 @@
 -- `gradient_rules128::check_coordinates` meets its contract. Assumes nothing.
-use borrow.Author.Rules.{rules}
 use mathlib.Core.Path.{◌∙◌}
 use Rattle.gradient_rules128.proofs.check_coordinates.Goals as goal
 

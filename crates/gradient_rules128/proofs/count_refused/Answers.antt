@@ -1,13 +1,12 @@
 -- `gradient_rules128::count_refused` meets its contract. The invariant: as long as none is counted, the answer for the gradient is that for the rest. Assumes nothing.
-use mathlib.Core.Path.{◌≡◌, refl}
-use Prim.Native.Nat.{◌-◌, ◌≤◌}
+use mathlib.Core.Path.{refl}
+use Prim.Native.Nat.{◌-◌}
 use native.Mathlib.Omega.{arith}
 use borrow.Author.Rules.{rules}
-use lib.ListN.{length, get_or, drop}
+use lib.ListN.{get_or}
 use lib.Ieee.{nan}
 use Rattle.doubles.specs.Doubles.{coordinate_rule}
 use Rattle.doubles128.specs.Doubles128.{floor_limit128}
-use Rattle.flp.specs.Encode.{coordinates_rule}
 use Rattle.gradient_rules.proofs.Searches.{coordinates_next, coordinates_end}
 use Rattle.gradient_rules128.proofs.count_refused.Goals as goal
 

@@ -1,12 +1,10 @@
 -- `gradient_rules128::search` meets its contract. The invariant: the answer for the gradient is that for the rest, counted from i. Assumes nothing.
-use mathlib.Core.Path.{◌≡◌, refl, ◌∙◌}
-use Prim.Native.Nat.{◌-◌, ◌≤◌}
+use mathlib.Core.Path.{refl, ◌∙◌}
+use Prim.Native.Nat.{◌-◌}
 use native.Mathlib.Omega.{arith}
 use borrow.Author.Rules.{rules}
-use lib.ListN.{length, drop}
 use lib.Ieee.{nan}
 use Rattle.doubles128.specs.Doubles128.{floor_limit128}
-use Rattle.flp.specs.Encode.{coordinates_rule}
 use Rattle.gradient_rules.proofs.Searches.{coordinates_next, coordinates_stop, coordinates_end}
 use Rattle.gradient_rules128.proofs.search.Goals as goal
 

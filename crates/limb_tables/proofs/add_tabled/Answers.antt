@@ -1,5 +1,5 @@
 -- `limb_tables::add_tabled` meets its contract. Assumes nothing.
-use Rattle.std.proofs.Common.{◌^◌, lit<, rules}
+use Rattle.std.proofs.Common.{◌^◌, lit<}
 use Rattle.rows.proofs.Elements.{below_all}
 use Rattle.field128.specs.Field128.{elements_of}
 use Rattle.limbs.specs.Limbs.{limbs}

@@ -1,5 +1,5 @@
 -- `limb_tables::at` meets its contract. Assumes nothing.
-use Rattle.std.proofs.Common.{sym, rules}
+use Rattle.std.proofs.Common.{sym}
 use lib.ListN.{get_or-eq_default}
 use Rattle.limb_tables.proofs.at.Goals as goal
 

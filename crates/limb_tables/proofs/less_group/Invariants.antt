@@ -1,9 +1,7 @@
 -- `limb_tables::less_group` meets its contract: rows whose elements are replaced from the front. Assumes nothing.
-use Rattle.std.proofs.Common.{◌+◌, ◌-◌, ◌*◌, ◌^◌, ◌<◌, ◌≤◌, length, take, drop, refl, arith, lit<, rules}
+use Rattle.std.proofs.Common.{◌-◌, ◌^◌, length, drop}
 use Rattle.rows.proofs.Walk.{Walking}
-use Rattle.tables.specs.Tables.{less_entries, less_group}
-use Rattle.groups.proofs.Each.{inside, bytes_long, each_next, each_end}
-use Rattle.limb_tables.proofs.Entries.{taken_off}
+use Rattle.tables.specs.Tables.{less_group}
 use Rattle.limb_tables.proofs.less_group.Given as goal
 
 abbrev pub invariant-loop-t : goal.invariant-loop-t

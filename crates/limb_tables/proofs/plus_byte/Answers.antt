@@ -1,5 +1,5 @@
 -- `limb_tables::plus_byte` meets its contract. Assumes nothing.
-use Rattle.std.proofs.Common.{◌^◌, rules}
+use Rattle.std.proofs.Common.{◌^◌}
 use Rattle.limb_tables.proofs.Entries.{byte_added}
 use Rattle.limb_tables.proofs.plus_byte.Goals as goal
 

@@ -1,7 +1,7 @@
 -- `limb_tables::sums_of` meets its contract. The invariant: each sum, with the entries of the bytes that are left, is that of all bytes. Assumes nothing.
-use Rattle.std.proofs.Common.{◌-◌, ◌^◌, ◌≤◌, length, drop, arith, lit<, rules}
+use Rattle.std.proofs.Common.{◌-◌, ◌^◌, drop, arith, lit<}
 use Rattle.groups.proofs.Each.{step_le}
-use Rattle.limb_tables.proofs.Entries.{Left, left_start, left_next, left_end}
+use Rattle.limb_tables.proofs.Entries.{left_start, left_next, left_end}
 use Rattle.limb_tables.proofs.sums_of.Goals as goal
 
 pub loop-k-init : goal.loop-k-init

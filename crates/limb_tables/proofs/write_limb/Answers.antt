@@ -1,5 +1,5 @@
 -- `limb_tables::write_limb` meets its contract. Assumes nothing.
-use Rattle.std.proofs.Common.{◌*◌, ◌^◌, drop, rules}
+use Rattle.std.proofs.Common.{◌*◌, ◌^◌, drop}
 use Rattle.field128.specs.Field128.{elements_of}
 use Rattle.limbs.specs.Limbs.{limbs}
 use Rattle.limb_tables.proofs.Entries.{tables_of}

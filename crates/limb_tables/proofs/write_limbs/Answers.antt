@@ -1,5 +1,4 @@
 -- `limb_tables::write_limbs` meets its contract. Assumes nothing.
-use Rattle.std.proofs.Common.{rules}
 use Rattle.field128.specs.Field128.{elements_of}
 use Rattle.limb_tables.proofs.Entries.{limb_tables}
 use Rattle.limb_tables.proofs.write_limbs.Goals as goal

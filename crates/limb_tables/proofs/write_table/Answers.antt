@@ -1,5 +1,5 @@
 -- `limb_tables::write_table` meets its contract. Assumes nothing.
-use Rattle.std.proofs.Common.{◌^◌, sym, subst, rules}
+use Rattle.std.proofs.Common.{◌^◌, sym, subst}
 use Rattle.tables.specs.Tables.{Entry}
 use Rattle.limb_tables.proofs.write_table.Goals as goal
 

@@ -1,6 +1,5 @@
 -- `limb_tables::write_tables` meets its contract. Assumes nothing.
-use Rattle.std.proofs.Common.{◌≡◌, ℕ, ◌-◌, ◌^◌, ◌<◌, ◌≤◌, length, get_or, drop, refl, ◌∙◌, arith, rules}
-use Rattle.tables.specs.Tables.{Tables}
+use Rattle.std.proofs.Common.{◌-◌, ◌^◌, refl, ◌∙◌, arith}
 use Rattle.limb_tables.proofs.Entries.{tables_from}
 use Rattle.limb_tables.proofs.write_tables.Goals as goal
 

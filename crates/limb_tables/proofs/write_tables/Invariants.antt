@@ -1,7 +1,6 @@
 -- `limb_tables::write_tables` meets its contract. Assumes nothing.
-use Rattle.std.proofs.Common.{◌≡◌, ℕ, ◌-◌, ◌^◌, ◌<◌, ◌≤◌, length, get_or, drop, refl, ◌∙◌, arith, rules}
+use Rattle.std.proofs.Common.{◌≡◌, ℕ, ◌-◌, ◌^◌, ◌<◌, ◌≤◌, length, get_or, drop}
 use Rattle.tables.specs.Tables.{Tables}
-use Rattle.limb_tables.proofs.Entries.{tables_from}
 use Rattle.limb_tables.proofs.write_tables.Given as goal
 
 abbrev pub invariant-loop-i : goal.invariant-loop-i

@@ -1,8 +1,7 @@
 -- `limbs::join_rows` meets its contract. Assumes nothing.
-use Rattle.std.proofs.Common.{◌-◌, ◌*◌, ◌^◌, ◌<◌, length, refl, arith, rules}
-use Rattle.rows.proofs.Walk.{Walking}
-use Rattle.field128.specs.Field128.{elements_of, words_of}
-use Rattle.limbs.specs.Limbs.{modulus_of, joined_rows}
+use Rattle.std.proofs.Common.{◌-◌, ◌^◌, ◌<◌, length, refl, arith, rules}
+use Rattle.field128.specs.Field128.{elements_of}
+use Rattle.limbs.specs.Limbs.{modulus_of}
 use Rattle.limbs.proofs.Words.{rows_inside, results_below, joined_next, joined_end}
 use Rattle.limbs.proofs.join_rows.Lts as lts
 use Rattle.limbs.proofs.join_rows.Reads as reads

@@ -1,9 +1,8 @@
 -- `limbs::join_rows` meets its contract. Assumes nothing.
-use Rattle.std.proofs.Common.{◌-◌, ◌*◌, ◌^◌, ◌<◌, length, refl, arith, rules}
+use Rattle.std.proofs.Common.{◌-◌, ◌*◌, length}
 use Rattle.rows.proofs.Walk.{Walking}
-use Rattle.field128.specs.Field128.{elements_of, words_of}
+use Rattle.field128.specs.Field128.{words_of}
 use Rattle.limbs.specs.Limbs.{modulus_of, joined_rows}
-use Rattle.limbs.proofs.Words.{rows_inside, results_below, joined_next, joined_end}
 use Rattle.limbs.proofs.join_rows.Given as goal
 
 abbrev pub invariant-loop-i : goal.invariant-loop-i

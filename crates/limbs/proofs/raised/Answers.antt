@@ -1,5 +1,5 @@
 -- `limbs::raised` meets its contract. Assumes nothing.
-use Rattle.std.proofs.Common.{arith, rules}
+use Rattle.std.proofs.Common.{arith}
 use Rattle.limbs.proofs.Words.{reduced_below, raised_reduced, raised_word}
 use Rattle.limbs.proofs.raised.Goals as goal
 

@@ -1,5 +1,4 @@
 -- `limbs::shifted_twice` meets its contract. Assumes nothing.
-use Rattle.std.proofs.Common.{rules}
 use Rattle.limbs.proofs.Words.{twice_shifted}
 use Rattle.limbs.proofs.shifted_twice.Goals as goal
 

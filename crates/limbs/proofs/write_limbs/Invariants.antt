@@ -1,9 +1,8 @@
 -- `limbs::write_limbs` meets its contract. Assumes nothing.
-use Rattle.std.proofs.Common.{◌-◌, length, refl, arith, rules}
+use Rattle.std.proofs.Common.{◌-◌, length}
 use Rattle.rows.proofs.Walk.{Walking}
 use Rattle.field128.specs.Field128.{elements_of}
 use Rattle.limbs.specs.Limbs.{limbs}
-use Rattle.limbs.proofs.Words.{element_inside, limbs_next, limbs_end}
 use Rattle.limbs.proofs.write_limbs.Given as goal
 
 abbrev pub invariant-loop-i : goal.invariant-loop-i

@@ -1,5 +1,4 @@
 -- `load_inputs::check_load` meets its contract. Assumes nothing.
-use borrow.Author.Rules.{rules}
 use lib.Dec.{eqb}
 use Rattle.rules.proofs.Chain.{refuse_last}
 use Rattle.load_inputs.proofs.check_load.Goals as goal

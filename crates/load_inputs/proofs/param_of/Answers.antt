@@ -1,5 +1,4 @@
 -- `load_inputs::param_of` meets its contract. Assumes nothing.
-use borrow.Author.Rules.{rules}
 use Rattle.load_inputs.proofs.param_of.Goals as goal
 
 pub returns : goal.returns

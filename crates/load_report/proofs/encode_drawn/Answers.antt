@@ -1,5 +1,4 @@
 -- `load_report::encode_drawn` meets its contract. Assumes nothing.
-use borrow.Author.Rules.{rules}
 use mathlib.Core.Path.{◌∙◌}
 use Rattle.pine.specs.Param.{Field64}
 use Rattle.flp.specs.Encode.{encode_of}

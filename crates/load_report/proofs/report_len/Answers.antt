@@ -1,5 +1,4 @@
 -- `load_report::report_len` meets its contract. Assumes nothing.
-use borrow.Author.Rules.{rules}
 use native.Mathlib.Omega.{arith}
 use Rattle.load_report.proofs.Reported.{bytes_long}
 use Rattle.load_report.proofs.report_len.Goals as goal

@@ -1,5 +1,4 @@
 -- `load_report::write_answer` meets its contract. Assumes nothing.
-use borrow.Author.Rules.{rules}
 use mathlib.Core.Path.{refl}
 use Rattle.load_report.proofs.Reported.{two_first}
 use Rattle.load_report.proofs.write_answer.Goals as goal

@@ -2,13 +2,9 @@
 use borrow.Author.Rules.{rules}
 use mathlib.Core.Path.{◌≡◌, sym, ap, ◌∙◌}
 use mathlib.Core.Bool.{Bool}
-use mathlib.Core.List.{List}
 use mathlib.Core.Option.{some}
-use Prim.Native.Nat.{ℕ}
-use native.Mathlib.Omega.{arith}
 use lib.Dec.{lit<}
 use lib.ListN.{get_or}
-use Rattle.pine.specs.declared.PineParam.{PineParam}
 use Rattle.load_text.specs.Text.{load_limits, numbers_of}
 use Rattle.load_text.specs.Steps.{numbers_if}
 use Rattle.load_report.specs.Report.{words_of, words_for}

@@ -1,11 +1,11 @@
 -- `measurement::copy_row` meets its contract. Assumes nothing.
 use mathlib.Core.Path.{◌≡◌, refl, sym, ◌∙◌}
 use mathlib.Core.List.{List}
-use Prim.Native.Nat.{ℕ, ◌+◌, ◌-◌, ◌≤◌, ◌<◌}
+use Prim.Native.Nat.{ℕ, ◌+◌, ◌-◌, ◌<◌}
 use native.Mathlib.Omega.{arith}
 use borrow.Author.Rules.{rules}
 use lib.ListN.{length, get_or, set, length-set}
-use Rattle.rows.proofs.Walk.{walked, walked_next, walked_end}
+use Rattle.rows.proofs.Walk.{walked_next, walked_end}
 use Rattle.measurement.proofs.copy_row.Invariants.{Inv}
 use Rattle.measurement.proofs.copy_row.Goals as goal
 

@@ -1,11 +1,9 @@
 -- `measurement::copy_row` meets its contract. Assumes nothing.
-use mathlib.Core.Path.{◌≡◌, refl, sym, ◌∙◌}
+use mathlib.Core.Path.{◌≡◌}
 use mathlib.Core.List.{List}
-use Prim.Native.Nat.{ℕ, ◌+◌, ◌-◌, ◌≤◌, ◌<◌}
-use native.Mathlib.Omega.{arith}
-use borrow.Author.Rules.{rules}
-use lib.ListN.{length, get_or, set, length-set}
-use Rattle.rows.proofs.Walk.{walked, walked_next, walked_end}
+use Prim.Native.Nat.{ℕ, ◌-◌, ◌≤◌}
+use lib.ListN.{length}
+use Rattle.rows.proofs.Walk.{walked}
 use Rattle.measurement.proofs.copy_row.Given as goal
 
 -- the invariant: the row is the other up to i, and as it was from there

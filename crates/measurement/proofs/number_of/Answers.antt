@@ -1,6 +1,5 @@
 -- `measurement::number_of` meets its contract. Assumes nothing.
 use native.Mathlib.Omega.{arith}
-use borrow.Author.Rules.{rules}
 use Rattle.measurement.proofs.Written.{number_as_product, product_fits}
 use Rattle.measurement.proofs.number_of.Goals as goal
 

@@ -1,5 +1,4 @@
 -- `measurement::success_bit` meets its contract. Assumes nothing.
-use borrow.Author.Rules.{rules}
 use Rattle.measurement.proofs.Written.{success_as_tested}
 use Rattle.measurement.proofs.success_bit.Goals as goal
 

@@ -1,13 +1,13 @@
 -- `measurement::write_bits` meets its contract. Assumes nothing.
 use mathlib.Core.Path.{◌≡◌, refl, sym, ap, ◌∙◌}
 use mathlib.Core.List.{List}
-use Prim.Native.Nat.{ℕ, ◌+◌, ◌-◌, ◌/◌, ◌%◌, ◌^◌, ◌≤◌, ◌<◌}
+use Prim.Native.Nat.{ℕ, ◌+◌, ◌-◌, ◌/◌, ◌%◌, ◌^◌, ◌<◌}
 use native.Mathlib.Nat.{div-one}
 use native.Mathlib.Omega.{arith}
 use borrow.Author.Rules.{rules}
 use lib.ListN.{length, set, length-set}
 use lib.Pow.{shr-shr}
-use Rattle.rows.proofs.Walk.{walked, walked_next, walked_end}
+use Rattle.rows.proofs.Walk.{walked_next, walked_end}
 use Rattle.flp.specs.Bits.{bits}
 use Rattle.flp.proofs.Bits.{length_bits, bits_at}
 use Rattle.measurement.proofs.write_bits.Invariants.{Inv}

@@ -1,15 +1,10 @@
 -- `measurement::write_bits` meets its contract. Assumes nothing.
-use mathlib.Core.Path.{◌≡◌, refl, sym, ap, ◌∙◌}
+use mathlib.Core.Path.{◌≡◌}
 use mathlib.Core.List.{List}
-use Prim.Native.Nat.{ℕ, ◌+◌, ◌-◌, ◌/◌, ◌%◌, ◌^◌, ◌≤◌, ◌<◌}
-use native.Mathlib.Nat.{div-one}
-use native.Mathlib.Omega.{arith}
-use borrow.Author.Rules.{rules}
-use lib.ListN.{length, set, length-set}
-use lib.Pow.{shr-shr}
-use Rattle.rows.proofs.Walk.{walked, walked_next, walked_end}
+use Prim.Native.Nat.{ℕ, ◌-◌, ◌/◌, ◌^◌, ◌≤◌}
+use lib.ListN.{length}
+use Rattle.rows.proofs.Walk.{walked}
 use Rattle.flp.specs.Bits.{bits}
-use Rattle.flp.proofs.Bits.{length_bits, bits_at}
 use Rattle.measurement.proofs.write_bits.Given as goal
 
 -- the invariant: the row is the bits up to i, and as it was from there; `rest` has the others

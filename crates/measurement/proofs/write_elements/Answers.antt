@@ -1,13 +1,13 @@
 -- `measurement::write_elements` meets its contract. Assumes nothing.
-use mathlib.Core.Path.{◌≡◌, refl, ◌∙◌}
-use Prim.Native.Nat.{◌-◌, ◌≤◌}
+use mathlib.Core.Path.{refl, ◌∙◌}
+use Prim.Native.Nat.{◌-◌}
 use native.Mathlib.Omega.{arith}
 use borrow.Author.Rules.{rules}
-use lib.ListN.{length, length-set}
+use lib.ListN.{length-set}
 use lib.Ieee.{nan}
 use Rattle.doubles.specs.Doubles.{floor_limit64}
 use Rattle.measurement.proofs.Usable.{usable_at}
-use Rattle.measurement.proofs.Elements.{Written, one_more, all_written}
+use Rattle.measurement.proofs.Elements.{one_more, all_written}
 use Rattle.measurement.proofs.write_elements.Goals as goal
 
 pub loop-k-init : goal.loop-k-init

@@ -1,13 +1,8 @@
 -- `measurement::write_elements` meets its contract. Assumes nothing.
-use mathlib.Core.Path.{◌≡◌, refl, ◌∙◌}
+use mathlib.Core.Path.{◌≡◌}
 use Prim.Native.Nat.{◌-◌, ◌≤◌}
-use native.Mathlib.Omega.{arith}
-use borrow.Author.Rules.{rules}
-use lib.ListN.{length, length-set}
-use lib.Ieee.{nan}
-use Rattle.doubles.specs.Doubles.{floor_limit64}
-use Rattle.measurement.proofs.Usable.{usable_at}
-use Rattle.measurement.proofs.Elements.{Written, one_more, all_written}
+use lib.ListN.{length}
+use Rattle.measurement.proofs.Elements.{Written}
 use Rattle.measurement.proofs.write_elements.Given as goal
 
 abbrev pub invariant-loop-k : goal.invariant-loop-k

@@ -1,12 +1,9 @@
 -- `measurement::write_measurement` meets its contract. Assumes nothing.
-use borrow.Author.Rules.{rules}
-use mathlib.Core.Path.{◌≡◌, sym, ap, ◌∙◌}
-use Prim.Native.Nat.{ℕ}
+use mathlib.Core.Path.{◌≡◌, sym, ◌∙◌}
 use native.Mathlib.Omega.{arith}
 use lib.ListN.{length, take}
 use lib.Seq.{length-take-le}
 use Rattle.field64.specs.Field.{p64}
-use Rattle.pine.specs.Record.{bound_in}
 use Rattle.measurement.specs.Parts.{checked_of}
 use Rattle.flp.proofs.Gradient.{length_elements}
 use Rattle.measurement.proofs.Written.{two_written}

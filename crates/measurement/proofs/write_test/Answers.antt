@@ -1,7 +1,6 @@
 -- `measurement::write_test` meets its contract. Assumes nothing.
 use mathlib.Core.Path.{sym}
 use native.Mathlib.Omega.{arith}
-use borrow.Author.Rules.{rules}
 use lib.Seq.{length-take-le}
 use Rattle.measurement.proofs.Written.{test_written}
 use Rattle.measurement.proofs.write_test.Goals as goal

@@ -1,5 +1,5 @@
 -- `narrow::class_of` meets its contract. Assumes nothing.
-use Rattle.std.proofs.Common.{◌≡◌, ℕ, ◌+◌, ◌-◌, ◌*◌, ◌≤◌, ap, ◌∙◌, le_of_lt, arith, rules}
+use Rattle.std.proofs.Common.{◌≡◌, ℕ, ◌+◌, ◌-◌, ◌*◌, ◌≤◌, ap, ◌∙◌, le_of_lt, arith}
 use Rattle.field128.specs.Field128.{p128, number_of}
 use Rattle.narrow.specs.Narrow.{flag_above}
 use Rattle.narrow.proofs.Numbers.{flag_fits}

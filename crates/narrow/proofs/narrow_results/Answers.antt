@@ -1,6 +1,5 @@
 -- `narrow::narrow_results` meets its contract. Assumes nothing.
-use Rattle.std.proofs.Common.{◌≡◌, ◌-◌, ◌<◌, map, length, get_or, sym, refl, ap, ◌∙◌, arith, length-set, rules}
-use Rattle.rows.proofs.Walk.{Walking}
+use Rattle.std.proofs.Common.{◌≡◌, ◌-◌, ◌<◌, length, get_or, sym, refl, ap, ◌∙◌, arith, length-set}
 use Rattle.rows.proofs.Elements.{below_at}
 use Rattle.field128.specs.Field128.{p128, number_of, elements_of}
 use Rattle.narrow.specs.Narrow.{class_of, narrowed}

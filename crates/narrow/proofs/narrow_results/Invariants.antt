@@ -1,11 +1,8 @@
 -- `narrow::narrow_results` meets its contract. Assumes nothing.
-use Rattle.std.proofs.Common.{◌≡◌, ◌-◌, ◌<◌, map, length, get_or, sym, refl, ap, ◌∙◌, arith, length-set, rules}
+use Rattle.std.proofs.Common.{◌≡◌, ◌-◌, map, length}
 use Rattle.rows.proofs.Walk.{Walking}
-use Rattle.rows.proofs.Elements.{below_at}
-use Rattle.field128.specs.Field128.{p128, number_of, elements_of}
+use Rattle.field128.specs.Field128.{elements_of}
 use Rattle.narrow.specs.Narrow.{class_of, narrowed}
-use Rattle.narrow.proofs.Numbers.{sorted_by, narrowed_by}
-use Rattle.narrow.proofs.Each.{over_begin, over_inside, over_at, over_turn, over_length, over_end}
 use Rattle.narrow.proofs.narrow_results.Given as goal
 
 -- the invariant: the row has the results narrowed up to t, and from there where they lie

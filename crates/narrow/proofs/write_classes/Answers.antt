@@ -1,7 +1,7 @@
 -- `narrow::write_classes` meets its contract. Assumes nothing.
-use Rattle.std.proofs.Common.{◌≡◌, ◌-◌, ◌<◌, map, length, refl, ◌∙◌, arith, rules}
+use Rattle.std.proofs.Common.{◌-◌, ◌<◌, length, refl, ◌∙◌, arith, rules}
 use Rattle.rows.proofs.Elements.{below_at}
-use Rattle.rows.proofs.Walk.{walked_end, Walking}
+use Rattle.rows.proofs.Walk.{walked_end}
 use Rattle.field128.specs.Field128.{p128, elements_of}
 use Rattle.narrow.specs.Narrow.{class_of}
 use Rattle.narrow.proofs.Each.{many, long, turn}

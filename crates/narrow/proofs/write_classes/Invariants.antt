@@ -1,10 +1,8 @@
 -- `narrow::write_classes` meets its contract. Assumes nothing.
-use Rattle.std.proofs.Common.{◌≡◌, ◌-◌, ◌<◌, map, length, refl, ◌∙◌, arith, rules}
-use Rattle.rows.proofs.Elements.{below_at}
-use Rattle.rows.proofs.Walk.{walked_end, Walking}
-use Rattle.field128.specs.Field128.{p128, elements_of}
+use Rattle.std.proofs.Common.{◌-◌, map, length}
+use Rattle.rows.proofs.Walk.{Walking}
+use Rattle.field128.specs.Field128.{elements_of}
 use Rattle.narrow.specs.Narrow.{class_of}
-use Rattle.narrow.proofs.Each.{many, long, turn}
 use Rattle.narrow.proofs.write_classes.Given as goal
 
 -- the invariant: the row has where the results lie up to t, and is as it was from there

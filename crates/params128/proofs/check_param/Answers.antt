@@ -1,5 +1,4 @@
 -- `params128::check_param` meets its contract. Assumes nothing.
-use borrow.Author.Rules.{rules}
 use Rattle.pine.specs.Param.{param_rules, param_answer}
 use Rattle.params128.proofs.check_param.Goals as goal
 

@@ -10,7 +10,6 @@ use Rattle.rows.specs.Rows.{row_rule}
 use Rattle.flp.specs.Circuits.{part_rules}
 use Rattle.parts.proofs.Vectors.{input_is, part_stopped, part_answer}
 use Rattle.parts.proofs.Places.{refused_is, accepted_is}
-use borrow.Author.Rules.{rules}
 use Rattle.parts.proofs.check_part.Lts as lts
 use Rattle.parts.proofs.check_part.Reads as reads
 use Rattle.parts.proofs.check_part.Tie as tie

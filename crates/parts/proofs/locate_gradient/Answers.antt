@@ -1,6 +1,5 @@
 -- `parts::locate_gradient` meets its contract. Assumes nothing.
 use mathlib.Core.Path.{refl}
-use borrow.Author.Rules.{rules}
 use Rattle.pine.specs.declared.record.Pine.{Pine}
 use Rattle.pine.specs.Record.{pine_of}
 use Rattle.flp.specs.Circuits.{gradient_part_of, gradient_part}

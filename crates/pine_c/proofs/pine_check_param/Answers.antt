@@ -1,6 +1,5 @@
 -- `pine_c::pine_check_param` meets its contract. Assumes nothing.
 use mathlib.Core.Path.{ap, ◌∙◌}
-use borrow.Author.Rules.{rules}
 use Rattle.pine.specs.declared.PineParam.{PineParam}
 use Rattle.pine.specs.Param.{Field64, param_answer}
 use Rattle.pine_c.proofs.pine_check_param.Goals as goal

@@ -1,6 +1,5 @@
 -- `pine_c::pine_file_add` meets its contract. Assumes nothing.
 use mathlib.Core.Path.{ap, ◌∙◌}
-use borrow.Author.Rules.{rules}
 use Rattle.pine.specs.declared.PineParam.{PineParam}
 use Rattle.file_add.specs.Add.{add_of}
 use Rattle.pine_c.proofs.pine_file_add.Goals as goal

@@ -1,6 +1,5 @@
 -- `pine_c::pine_file_read` meets its contract. Assumes nothing.
 use mathlib.Core.Path.{ap, ◌∙◌}
-use borrow.Author.Rules.{rules}
 use Rattle.pine.specs.declared.PineParam.{PineParam}
 use Rattle.day_file.specs.Calls.{read_of}
 use Rattle.pine_c.proofs.pine_file_read.Goals as goal

@@ -1,6 +1,5 @@
 -- `pine_c::pine_file_size` meets its contract. Assumes nothing.
 use mathlib.Core.Path.{ap, ◌∙◌}
-use borrow.Author.Rules.{rules}
 use Rattle.pine.specs.declared.PineParam.{PineParam}
 use Rattle.file_size.specs.Size.{size_of}
 use Rattle.pine_c.proofs.pine_file_size.Goals as goal

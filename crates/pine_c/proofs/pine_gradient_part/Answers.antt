@@ -1,6 +1,5 @@
 -- `pine_c::pine_gradient_part` meets its contract. Assumes nothing.
 use mathlib.Core.Path.{ap, ◌∙◌}
-use borrow.Author.Rules.{rules}
 use Rattle.pine.specs.declared.PineParam.{PineParam}
 use Rattle.rules.specs.Rules.{in_order}
 use Rattle.pine.specs.Param.{Field64}

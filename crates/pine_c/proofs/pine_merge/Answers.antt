@@ -1,6 +1,5 @@
 -- `pine_c::pine_merge` meets its contract. Assumes nothing.
 use mathlib.Core.Path.{ap, ◌∙◌}
-use borrow.Author.Rules.{rules}
 use Rattle.pine.specs.declared.PineParam.{PineParam}
 use Rattle.pine.specs.Param.{Field64}
 use Rattle.vdaf.specs.Aggregates.{accumulate_of}

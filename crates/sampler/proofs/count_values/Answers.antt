@@ -1,16 +1,14 @@
 -- `sampler::count_values` meets its contract. Assumes nothing.
-use Prim.Native.Nat.{◌+◌, ◌-◌, ◌*◌, ◌/◌, ◌<◌}
+use Prim.Native.Nat.{◌+◌, ◌-◌, ◌*◌, ◌/◌}
 use native.Mathlib.Omega.{arith}
-use native.Mathlib.Nat.{zero-add}
-use borrow.Author.Rules.{rules}
-use lib.ListN.{length, get_or, take, drop}
+use lib.ListN.{length, take, drop}
 use lib.Dec.{ltb}
-use mathlib.Core.Path.{◌≡◌, refl, ap, ◌∙◌}
+use mathlib.Core.Path.{◌≡◌, ap, ◌∙◌}
 use Prim.Native.Nat.{ℕ}
 use Rattle.field64.specs.Field.{p64}
 use Rattle.octets.specs.Octets.{from_bytes}
 use Rattle.octets.proofs.Pasted.{part_long}
-use Rattle.sampler.proofs.Values.{Counting, counting_next, counting_end, counting_none}
+use Rattle.sampler.proofs.Values.{counting_next, counting_end, counting_none}
 use Rattle.sampler.proofs.Keeping.{one_at_most}
 use Rattle.sampler.proofs.count_values.Goals as goal
 

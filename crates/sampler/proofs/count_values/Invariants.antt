@@ -1,17 +1,8 @@
 -- `sampler::count_values` meets its contract. Assumes nothing.
-use Prim.Native.Nat.{◌+◌, ◌-◌, ◌*◌, ◌/◌, ◌<◌}
-use native.Mathlib.Omega.{arith}
-use native.Mathlib.Nat.{zero-add}
-use borrow.Author.Rules.{rules}
-use lib.ListN.{length, get_or, take, drop}
-use lib.Dec.{ltb}
-use mathlib.Core.Path.{◌≡◌, refl, ap, ◌∙◌}
-use Prim.Native.Nat.{ℕ}
+use Prim.Native.Nat.{◌-◌, ◌/◌}
+use lib.ListN.{length}
 use Rattle.field64.specs.Field.{p64}
-use Rattle.octets.specs.Octets.{from_bytes}
-use Rattle.octets.proofs.Pasted.{part_long}
-use Rattle.sampler.proofs.Values.{Counting, counting_next, counting_end, counting_none}
-use Rattle.sampler.proofs.Keeping.{one_at_most}
+use Rattle.sampler.proofs.Values.{Counting}
 use Rattle.sampler.proofs.count_values.Given as goal
 
 abbrev pub invariant-loop-i : goal.invariant-loop-i

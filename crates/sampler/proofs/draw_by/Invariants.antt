@@ -1,16 +1,9 @@
 -- `sampler::draw_by` meets its contract. Assumes nothing.
-use borrow.Author.Rules.{rules}
-use mathlib.Core.Path.{◌≡◌, refl, sym, ◌∙◌}
-use mathlib.Core.List.{◌++◌}
-use Prim.Native.Nat.{◌+◌, ◌-◌, ◌*◌, min}
-use native.Mathlib.Omega.{arith}
-use lib.ListN.{length, take, drop}
-use lib.Seq.{length-take-le, length_front}
-use borrow.Rule.Slice.PartMut.{same_len_mid}
+use mathlib.Core.Path.{◌≡◌}
+use Prim.Native.Nat.{◌-◌, min}
+use lib.ListN.{length}
 use Rattle.field64.specs.Field.{p64}
-use Rattle.groups.proofs.Swapped.{part_long}
 use Rattle.sampler.specs.Drawing.{Drawing}
-use Rattle.sampler.proofs.Keeping.{drawing_none, drawing_next}
 use Rattle.sampler.proofs.draw_by.Given as goal
 
 abbrev pub invariant-loop-n : goal.invariant-loop-n

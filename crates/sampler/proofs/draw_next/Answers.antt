@@ -1,11 +1,6 @@
 -- `sampler::draw_next` meets its contract. Assumes nothing.
-use borrow.Author.Rules.{rules}
-use mathlib.Core.Path.{sym, ap, ◌∙◌}
-use native.Mathlib.Omega.{arith}
 use lib.ListN.{length}
 use Rattle.field64.specs.Field.{p64}
-use Rattle.turboshake.specs.Stream.{drawn}
-use Rattle.sampler.proofs.Values.{values_length}
 use Rattle.sampler.proofs.Keeping.{drew_next}
 use Rattle.sampler.proofs.draw_next.Goals as goal
 

@@ -1,5 +1,4 @@
 -- `sampler::draw_row` meets its contract. Assumes nothing.
-use borrow.Author.Rules.{rules}
 use native.Mathlib.Omega.{arith}
 use lib.Dec.{lit<}
 use Rattle.field64.specs.Field.{p64}

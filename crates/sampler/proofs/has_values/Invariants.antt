@@ -1,16 +1,11 @@
 -- `sampler::has_values` meets its contract. Assumes nothing.
-use borrow.Author.Rules.{rules}
-use mathlib.Core.Path.{◌≡◌, refl, sym, ap, ◌∙◌}
-use Prim.Native.Nat.{ℕ, ◌-◌, ◌*◌, ◌<◌}
-use native.Mathlib.Omega.{arith}
+use mathlib.Core.Path.{◌≡◌}
+use Prim.Native.Nat.{◌-◌, ◌*◌, ◌<◌}
 use lib.ListN.{length}
-use lib.Seq.{length-take-le, length_front}
 use lib.Dec.{leb}
-use borrow.Author.Tests.{le-leb}
 use Rattle.field64.specs.Field.{p64}
 use Rattle.turboshake.specs.Stream.{drawn}
 use Rattle.sampler.specs.Sampler.{values_of}
-use Rattle.sampler.proofs.Keeping.{wanted_less, too_few}
 use Rattle.sampler.proofs.has_values.Given as goal
 
 abbrev pub invariant-loop-rest : goal.invariant-loop-rest

@@ -1,12 +1,11 @@
 -- `sampler::keep` meets its contract. Assumes nothing.
-use Prim.Native.Nat.{◌-◌, ◌<◌}
+use Prim.Native.Nat.{◌-◌}
 use native.Mathlib.Omega.{arith}
-use borrow.Author.Rules.{rules}
-use lib.ListN.{length, get_or}
+use lib.ListN.{get_or}
 use lib.Dec.{ltb}
 use mathlib.Core.Path.{refl}
 use Rattle.field64.specs.Field.{p64}
-use Rattle.sampler.proofs.Keeping.{Keeping, keeping_none, keeping_next, keeping_end, one_at_most}
+use Rattle.sampler.proofs.Keeping.{keeping_none, keeping_next, keeping_end, one_at_most}
 use Rattle.sampler.proofs.keep.Goals as goal
 
 pub loop-i-init : goal.loop-i-init

@@ -1,12 +1,8 @@
 -- `sampler::keep` meets its contract. Assumes nothing.
-use Prim.Native.Nat.{◌-◌, ◌<◌}
-use native.Mathlib.Omega.{arith}
-use borrow.Author.Rules.{rules}
-use lib.ListN.{length, get_or}
-use lib.Dec.{ltb}
-use mathlib.Core.Path.{refl}
+use Prim.Native.Nat.{◌-◌}
+use lib.ListN.{length}
 use Rattle.field64.specs.Field.{p64}
-use Rattle.sampler.proofs.Keeping.{Keeping, keeping_none, keeping_next, keeping_end, one_at_most}
+use Rattle.sampler.proofs.Keeping.{Keeping}
 use Rattle.sampler.proofs.keep.Given as goal
 
 abbrev pub invariant-loop-i : goal.invariant-loop-i

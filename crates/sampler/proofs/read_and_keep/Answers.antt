@@ -5,7 +5,6 @@ use Prim.Native.Nat.{ℕ}
 use lib.ListN.{length}
 use Rattle.field64.specs.Field.{p64}
 use Rattle.sampler.specs.Sampler.{kept_of, values_of}
-use borrow.Author.Rules.{rules}
 use Rattle.sampler.proofs.read_and_keep.Goals as goal
 
 pub returns : goal.returns

@@ -1,5 +1,4 @@
 -- `sampler::take_values` meets its contract. Assumes nothing.
-use borrow.Author.Rules.{rules}
 use mathlib.Core.Path.{◌≡◌, refl, ap, ◌∙◌}
 use Prim.Native.Nat.{ℕ, ◌+◌, ◌-◌, ◌*◌, ◌/◌, ◌≤◌, ◌<◌}
 use native.Mathlib.Omega.{arith}
@@ -9,7 +8,6 @@ use Rattle.field64.specs.Field.{p64}
 use Rattle.groups.proofs.Swapped.{part_long}
 use Rattle.octets.proofs.Pasted.{part_long as bytes_long}
 use Rattle.sampler.specs.Sampler.{values_of}
-use Rattle.sampler.specs.Drawing.{Begins}
 use Rattle.sampler.proofs.Values.{values_length}
 use Rattle.sampler.proofs.Keeping.{begins_none, begins_next, some_left, begins_all}
 use Rattle.sampler.proofs.take_values.Lts as lts

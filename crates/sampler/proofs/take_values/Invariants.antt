@@ -1,17 +1,9 @@
 -- `sampler::take_values` meets its contract. Assumes nothing.
-use borrow.Author.Rules.{rules}
-use mathlib.Core.Path.{◌≡◌, refl, ap, ◌∙◌}
-use Prim.Native.Nat.{ℕ, ◌+◌, ◌-◌, ◌*◌, ◌/◌, ◌≤◌, ◌<◌}
-use native.Mathlib.Omega.{arith}
-use lib.ListN.{length, take, drop}
-use borrow.Rule.Slice.PartMut.{same_len_mid}
+use mathlib.Core.Path.{◌≡◌}
+use Prim.Native.Nat.{◌-◌, ◌/◌, ◌≤◌}
+use lib.ListN.{length}
 use Rattle.field64.specs.Field.{p64}
-use Rattle.groups.proofs.Swapped.{part_long}
-use Rattle.octets.proofs.Pasted.{part_long as bytes_long}
-use Rattle.sampler.specs.Sampler.{values_of}
 use Rattle.sampler.specs.Drawing.{Begins}
-use Rattle.sampler.proofs.Values.{values_length}
-use Rattle.sampler.proofs.Keeping.{begins_none, begins_next, some_left, begins_all}
 use Rattle.sampler.proofs.take_values.Given as goal
 
 abbrev pub invariant-loop-count : goal.invariant-loop-count

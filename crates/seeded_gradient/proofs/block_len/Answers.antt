@@ -3,7 +3,6 @@ use mathlib.Core.Path.{refl}
 use mathlib.Core.Logic.{inl, inr}
 use native.Mathlib.Omega.{arith}
 use Rattle.seeded_gradient.proofs.Blocks.{fits_some}
-use borrow.Author.Rules.{rules}
 use Rattle.seeded_gradient.proofs.block_len.Goals as goal
 
 pub returns-then-fit-at_most : goal.returns-then-fit-at_most

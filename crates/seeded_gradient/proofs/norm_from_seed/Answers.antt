@@ -6,7 +6,6 @@ use Rattle.flp.specs.Encode.{elements}
 use Rattle.turboshake.proofs.Shake.{bytes_all}
 use Rattle.wr_joint_rand.proofs.Blocks.{few_bytes, from_buffer}
 use Rattle.wr_joint_rand.proofs.Seeds.{results_are}
-use borrow.Author.Rules.{rules}
 use Rattle.seeded_gradient.proofs.norm_from_seed.Goals as goal
 
 pub overflow_mul-count : goal.overflow_mul-count

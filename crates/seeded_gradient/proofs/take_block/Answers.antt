@@ -5,7 +5,6 @@ use Rattle.field64.specs.Field.{p64}
 use Rattle.flp.specs.Encode.{elements}
 use Rattle.wr_joint_rand.proofs.Blocks.{few_bytes, from_buffer}
 use Rattle.seeded_gradient.proofs.Blocks.{by_tiles}
-use borrow.Author.Rules.{rules}
 use Rattle.seeded_gradient.proofs.take_block.Goals as goal
 
 pub overflow_mul-count : goal.overflow_mul-count

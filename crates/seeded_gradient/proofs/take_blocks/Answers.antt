@@ -7,7 +7,6 @@ use lib.ListN.{length}
 use lib.Seq.{length_front}
 use Rattle.field64.specs.Field.{p64}
 use Rattle.flp.specs.Encode.{elements}
-use Rattle.turboshake.specs.declared.Sponge.{Sponge}
 use Rattle.turboshake.specs.Stream.{after}
 use Rattle.groups.proofs.Swapped.{part_long}
 use Rattle.groups.proofs.Swapped.{row_long}

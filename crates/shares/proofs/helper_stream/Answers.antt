@@ -1,5 +1,4 @@
 -- `shares::helper_stream` meets its contract. Assumes nothing.
-use borrow.Author.Rules.{rules}
 use Rattle.turboshake.proofs.Shake.{bytes_all}
 use Rattle.shares.proofs.Seeds.{stream_is}
 use Rattle.shares.proofs.helper_stream.Goals as goal

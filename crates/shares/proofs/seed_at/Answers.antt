@@ -1,5 +1,4 @@
 -- `shares::seed_at` meets its contract. Assumes nothing.
-use borrow.Author.Rules.{rules}
 use Rattle.shares.proofs.Seeds.{seed_is}
 use Rattle.shares.proofs.seed_at.Goals as goal
 

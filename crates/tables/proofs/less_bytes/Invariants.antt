@@ -1,17 +1,9 @@
 -- `tables::less_bytes` meets its contract. The invariant: the sum, and the entries of the bytes that are left, are those of all bytes. Assumes nothing.
-use mathlib.Core.Path.{◌≡◌, ap, ◌∙◌}
-use mathlib.Core.List.{[]}
-use Prim.Native.Nat.{ℕ, ◌+◌, ◌-◌, ◌*◌, ◌%◌, ◌≤◌}
-use native.Mathlib.Nat.{mod-lt}
-use native.Mathlib.Omega.{arith}
-use borrow.Author.Rules.{rules}
-use lib.ListN.{length, drop, drop_of_length-le}
-use lib.Dec.{lit<}
-use Rattle.field64.specs.Field.{p64, sub_mod}
+use mathlib.Core.Path.{◌≡◌}
+use Prim.Native.Nat.{◌+◌, ◌-◌, ◌*◌, ◌≤◌}
+use lib.ListN.{length, drop}
 use Rattle.sums.specs.Unreduced.{total_of}
 use Rattle.tables.specs.Tables.{entries_of}
-use Rattle.groups.proofs.Each.{step_le, step_fits, step_less}
-use Rattle.tables.proofs.Tables.{step_carries, bytes_next}
 use Rattle.tables.proofs.less_bytes.Given as goal
 
 abbrev pub invariant-loop-k : goal.invariant-loop-k

@@ -5,8 +5,7 @@ use native.Mathlib.Omega.{arith}
 use borrow.Author.Rules.{rules}
 use lib.ListN.{length}
 use Rattle.field64.specs.Field.{p64}
-use Rattle.rows.proofs.Walk.{Walking}
-use Rattle.tables.specs.Tables.{less_entries, less_group}
+use Rattle.tables.specs.Tables.{less_entries}
 use Rattle.groups.proofs.Each.{small, inside, bytes_long, each_next, each_end}
 use Rattle.tables.proofs.less_group.Lts as lts
 use Rattle.tables.proofs.less_group.Reads as reads

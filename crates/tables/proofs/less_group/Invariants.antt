@@ -1,13 +1,9 @@
 -- `tables::less_group` meets its contract: a row whose elements are replaced from the front. Assumes nothing.
-use mathlib.Core.Path.{refl}
-use Prim.Native.Nat.{◌+◌, ◌-◌, ◌*◌, ◌≤◌}
-use native.Mathlib.Omega.{arith}
-use borrow.Author.Rules.{rules}
+use Prim.Native.Nat.{◌-◌}
 use lib.ListN.{length}
 use Rattle.field64.specs.Field.{p64}
 use Rattle.rows.proofs.Walk.{Walking}
-use Rattle.tables.specs.Tables.{less_entries, less_group}
-use Rattle.groups.proofs.Each.{small, inside, bytes_long, each_next, each_end}
+use Rattle.tables.specs.Tables.{less_group}
 use Rattle.tables.proofs.less_group.Given as goal
 
 abbrev pub invariant-loop-t : goal.invariant-loop-t

@@ -1,7 +1,6 @@
 -- `tables::table` meets its contract. Assumes nothing.
 use mathlib.Core.Path.{refl}
 use native.Mathlib.Omega.{arith}
-use borrow.Author.Rules.{rules}
 use Rattle.field64.specs.Field.{p64}
 use Rattle.tables.proofs.Tables.{less_table_law}
 use Rattle.tables.proofs.table.Goals as goal

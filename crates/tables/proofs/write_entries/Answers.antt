@@ -1,10 +1,9 @@
 -- `tables::write_entries` meets its contract. Assumes nothing.
-use mathlib.Core.Path.{◌≡◌, refl}
-use Prim.Native.Nat.{◌-◌, ◌≤◌}
+use mathlib.Core.Path.{refl}
+use Prim.Native.Nat.{◌-◌}
 use native.Mathlib.Omega.{arith}
-use borrow.Author.Rules.{rules}
-use lib.ListN.{length, length-set}
-use Rattle.tables.proofs.Tables.{Written, written_next}
+use lib.ListN.{length-set}
+use Rattle.tables.proofs.Tables.{written_next}
 use Rattle.tables.proofs.write_entries.Goals as goal
 
 pub loop-k-init : goal.loop-k-init

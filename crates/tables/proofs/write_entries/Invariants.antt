@@ -1,10 +1,8 @@
 -- `tables::write_entries` meets its contract. Assumes nothing.
-use mathlib.Core.Path.{◌≡◌, refl}
+use mathlib.Core.Path.{◌≡◌}
 use Prim.Native.Nat.{◌-◌, ◌≤◌}
-use native.Mathlib.Omega.{arith}
-use borrow.Author.Rules.{rules}
-use lib.ListN.{length, length-set}
-use Rattle.tables.proofs.Tables.{Written, written_next}
+use lib.ListN.{length}
+use Rattle.tables.proofs.Tables.{Written}
 use Rattle.tables.proofs.write_entries.Given as goal
 
 abbrev pub invariant-loop-k : goal.invariant-loop-k

@@ -1,6 +1,5 @@
 -- `tables::write_table` meets its contract. Assumes nothing.
 use mathlib.Core.Path.{sym, subst}
-use borrow.Author.Rules.{rules}
 use Rattle.field64.specs.Field.{p64}
 use Rattle.tables.specs.Tables.{Entry}
 use Rattle.tables.proofs.write_table.Goals as goal

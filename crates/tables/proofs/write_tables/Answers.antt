@@ -1,11 +1,8 @@
 -- `tables::write_tables` meets its contract. Assumes nothing.
-use mathlib.Core.Path.{◌≡◌, refl, ◌∙◌}
-use Prim.Native.Nat.{◌-◌, ◌≤◌}
+use mathlib.Core.Path.{refl, ◌∙◌}
+use Prim.Native.Nat.{◌-◌}
 use native.Mathlib.Omega.{arith}
-use borrow.Author.Rules.{rules}
-use lib.ListN.{length}
 use Rattle.field64.specs.Field.{p64}
-use Rattle.tables.specs.Tables.{Tables}
 use Rattle.tables.proofs.Tables.{tables_next}
 use Rattle.tables.proofs.write_tables.Goals as goal
 

@@ -1,12 +1,9 @@
 -- `tables::write_tables` meets its contract. Assumes nothing.
-use mathlib.Core.Path.{◌≡◌, refl, ◌∙◌}
+use mathlib.Core.Path.{◌≡◌}
 use Prim.Native.Nat.{◌-◌, ◌≤◌}
-use native.Mathlib.Omega.{arith}
-use borrow.Author.Rules.{rules}
 use lib.ListN.{length}
 use Rattle.field64.specs.Field.{p64}
 use Rattle.tables.specs.Tables.{Tables}
-use Rattle.tables.proofs.Tables.{tables_next}
 use Rattle.tables.proofs.write_tables.Given as goal
 
 abbrev pub invariant-loop-i : goal.invariant-loop-i

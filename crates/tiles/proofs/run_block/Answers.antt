@@ -9,7 +9,6 @@ use Rattle.flp.specs.Tests.{tests_of}
 use Rattle.flp.specs.Encode.{elements}
 use Rattle.stream_states.specs.States.{tile_of, all_after}
 use Rattle.stream_states.proofs.States.{starts_ready, starts_drawn, last_after, last_ready, as_many}
-use borrow.Author.Rules.{rules}
 use Rattle.tiles.proofs.run_block.Goals as goal
 
 pub run_tiles-norm-requires : goal.run_tiles-norm-requires

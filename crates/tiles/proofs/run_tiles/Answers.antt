@@ -3,14 +3,13 @@ use mathlib.Core.Path.{◌≡◌, refl, sym, ap, subst, ◌∙◌}
 use Prim.Native.Nat.{ℕ, ◌+◌, ◌-◌, ◌*◌, ◌≤◌, ◌<◌}
 use native.Mathlib.Nat.{le_refl}
 use native.Mathlib.Omega.{arith}
-use borrow.Author.Rules.{rules}
-use lib.ListN.{length, take, drop}
+use lib.ListN.{length, drop}
 use lib.Dec.{lit<}
 use Rattle.field64.specs.Field.{p64}
 use Rattle.sums.specs.Unreduced.{words_of}
 use Rattle.doubles.specs.Doubles.{floor_limit64}
 use Rattle.flp.specs.Tests.{tests_of}
-use Rattle.flp.specs.Encode.{elements, true_sq_norm_of}
+use Rattle.flp.specs.Encode.{elements}
 use Rattle.flp.proofs.Gradient.{length_elements}
 use Rattle.groups.proofs.Swapped.{Fits, group_fits, group_cut, part_long, groups_start, groups_below, groups_next, groups_end}
 use Rattle.gradient_groups.proofs.Norm.{usable_take, usable_drop, elements_cut, top_fits, top_grown, none_room, none_more, norm_start, norm_next, norm_end}

@@ -2,7 +2,6 @@
 use mathlib.Core.Path.{sym, ◌∙◌}
 use Rattle.pine.specs.Param.{Field64}
 use Rattle.vdaf.proofs.Effects.{accumulate_refused, accumulate_met, accumulate_done}
-use borrow.Author.Rules.{rules}
 use Rattle.vdaf.proofs.accumulate.Goals as goal
 
 pub returns-then-answer-ne0 : goal.returns-then-answer-ne0

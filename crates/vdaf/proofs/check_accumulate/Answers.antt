@@ -1,7 +1,6 @@
 -- `vdaf::check_accumulate` meets its contract. Assumes nothing.
 use Rattle.pine.specs.Param.{Field64}
 use Rattle.vdaf.proofs.Verdicts.{accumulate_verdict}
-use borrow.Author.Rules.{rules}
 use Rattle.vdaf.proofs.check_accumulate.Goals as goal
 
 pub returns : goal.returns

@@ -2,7 +2,6 @@
 use Rattle.pine.specs.Param.{Field64}
 use Rattle.pine.proofs.Sizes.{derivable_64}
 use Rattle.vdaf.proofs.Verdicts.{stopped, inputs_met, lens_verdict}
-use borrow.Author.Rules.{rules}
 use Rattle.vdaf.proofs.check_lens.Goals as goal
 
 pub returns-then-inputs-ne0 : goal.returns-then-inputs-ne0

@@ -3,7 +3,6 @@ use lib.Dec.{lit<, lit≤}
 use Rattle.pine.specs.Param.{Field64}
 use Rattle.pine.proofs.Sizes.{derivable_64}
 use Rattle.vdaf.proofs.Verdicts.{only_elements, unshard_stopped, lens_met, unshard_verdict}
-use borrow.Author.Rules.{rules}
 use Rattle.vdaf.proofs.check_unshard.Goals as goal
 
 pub returns-then-lens-ne0 : goal.returns-then-lens-ne0

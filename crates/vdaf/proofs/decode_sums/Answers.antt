@@ -9,7 +9,7 @@ use lib.Ieee.{Float}
 use Rattle.field64.specs.Field.{p64, add_mod}
 use Rattle.doubles.specs.Doubles.{plus_zero, decoded}
 use Rattle.rows.proofs.Elements.{below_at}
-use Rattle.rows.proofs.Walk.{walked_end, Walking, walking_next}
+use Rattle.rows.proofs.Walk.{walked_end, walking_next}
 use Rattle.vdaf.specs.Aggregates.{decoded_sums}
 use Rattle.vdaf.proofs.Decoded.{length-decoded_sums, get_or-decoded_sums}
 use Rattle.vdaf.proofs.decode_sums.Invariants.{Inv}

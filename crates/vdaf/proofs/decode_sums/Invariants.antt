@@ -1,17 +1,12 @@
 -- `vdaf::decode_sums` meets its contract. Assumes nothing.
-use mathlib.Core.Path.{◌≡◌, refl, sym, ◌∙◌}
 use mathlib.Core.List.{List}
-use Prim.Native.Nat.{ℕ, ◌+◌, ◌-◌, ◌<◌}
-use native.Mathlib.Omega.{arith}
-use borrow.Author.Rules.{rules}
-use lib.ListN.{length, get_or, set}
+use Prim.Native.Nat.{ℕ, ◌-◌}
+use lib.ListN.{length}
 use lib.Ieee.{Float}
-use Rattle.field64.specs.Field.{p64, add_mod}
-use Rattle.doubles.specs.Doubles.{plus_zero, decoded}
-use Rattle.rows.proofs.Elements.{below_at}
-use Rattle.rows.proofs.Walk.{walked_end, Walking, walking_next}
+use Rattle.field64.specs.Field.{p64}
+use Rattle.doubles.specs.Doubles.{decoded}
+use Rattle.rows.proofs.Walk.{Walking}
 use Rattle.vdaf.specs.Aggregates.{decoded_sums}
-use Rattle.vdaf.proofs.Decoded.{length-decoded_sums, get_or-decoded_sums}
 use Rattle.vdaf.proofs.decode_sums.Given as goal
 
 -- the invariant: the row is the decoded sums up to i, and as it was from there

@@ -2,7 +2,6 @@
 use mathlib.Core.Path.{refl}
 use Rattle.pine.specs.Param.{Field64}
 use Rattle.vdaf.proofs.Effects.{empty_refused, empty_done}
-use borrow.Author.Rules.{rules}
 use Rattle.vdaf.proofs.empty_aggregate.Goals as goal
 
 pub returns-then-answer-ne0 : goal.returns-then-answer-ne0

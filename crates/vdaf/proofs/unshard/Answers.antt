@@ -3,7 +3,6 @@ use mathlib.Core.Path.{sym, ◌∙◌}
 use Rattle.pine.specs.Param.{Field64}
 use Rattle.pine.proofs.Sizes.{derivable_64, scale_is}
 use Rattle.vdaf.proofs.Effects.{unshard_refused, unshard_met, unshard_done}
-use borrow.Author.Rules.{rules}
 use Rattle.vdaf.proofs.unshard.Goals as goal
 
 pub returns-then-answer-ne0 : goal.returns-then-answer-ne0

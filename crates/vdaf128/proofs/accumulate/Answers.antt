@@ -1,6 +1,5 @@
 -- `vdaf128::accumulate` meets its contract. Assumes nothing.
 use Rattle.vdaf128.proofs.Verdicts.{lens_refused, lens_met, elements_outcome}
-use borrow.Author.Rules.{rules}
 use Rattle.vdaf128.proofs.accumulate.Goals as goal
 
 pub returns-then-lens-ne0 : goal.returns-then-lens-ne0

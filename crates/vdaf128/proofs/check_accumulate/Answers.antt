@@ -1,7 +1,6 @@
 -- `vdaf128::check_accumulate` meets its contract. Assumes nothing.
 use Rattle.params128.specs.Field128.{Field128}
 use Rattle.vdaf.proofs.Verdicts.{accumulate_verdict}
-use borrow.Author.Rules.{rules}
 use Rattle.vdaf128.proofs.check_accumulate.Goals as goal
 
 pub returns : goal.returns

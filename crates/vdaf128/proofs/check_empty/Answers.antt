@@ -1,5 +1,4 @@
 -- `vdaf128::check_empty` meets its contract. Assumes nothing.
-use borrow.Author.Rules.{rules}
 use Rattle.params128.specs.Field128.{Field128}
 use Rattle.vdaf.proofs.Verdicts.{empty_stopped, inputs_met}
 use Rattle.vdaf128.proofs.Verdicts.{empty_by_words}

@@ -1,5 +1,4 @@
 -- `vdaf128::check_lens` meets its contract. Assumes nothing.
-use borrow.Author.Rules.{rules}
 use Rattle.params128.specs.Field128.{Field128}
 use Rattle.vdaf.proofs.Verdicts.{stopped, inputs_met}
 use Rattle.vdaf128.proofs.Verdicts.{lens_by_words}

@@ -1,5 +1,4 @@
 -- `vdaf128::check_sizes` meets its contract. Assumes nothing.
-use borrow.Author.Rules.{rules}
 use mathlib.Core.Path.{◌∙◌}
 use Rattle.vdaf128.proofs.check_sizes.Goals as goal
 

@@ -1,5 +1,4 @@
 -- `vdaf128::check_unshard` meets its contract. Assumes nothing.
-use borrow.Author.Rules.{rules}
 use Rattle.params128.specs.Field128.{Field128}
 use Rattle.vdaf.proofs.Verdicts.{unshard_stopped}
 use Rattle.vdaf128.proofs.Verdicts.{rows_ready, elements_refused, rows_met, sizes_answer}

@@ -1,13 +1,11 @@
 -- `vdaf128::count_large` meets its contract. The invariant: as long as none is counted, the answer for the sums is that for the rest. Assumes nothing.
-use mathlib.Core.Path.{◌≡◌, refl, ◌∙◌}
+use mathlib.Core.Path.{◌≡◌}
 use Prim.Native.Nat.{◌-◌, ◌/◌, ◌≤◌}
-use native.Mathlib.Omega.{arith}
-use borrow.Author.Rules.{rules}
 use lib.ListN.{length, drop}
-use Rattle.field128.specs.Field128.{p128, number_of}
+use Rattle.field128.specs.Field128.{p128}
 use Rattle.doubles128.specs.Doubles128.{size_limit128}
 use Rattle.vdaf.specs.Aggregates.{sizes_rule}
-use Rattle.vdaf128.proofs.Sizes.{sums, sums_long, sum_inside, sum_is, sum_below_lem, small_by_flag, sizes_next, sizes_end}
+use Rattle.vdaf128.proofs.Sizes.{sums}
 use Rattle.vdaf128.proofs.count_large.Given as goal
 
 abbrev pub invariant-loop-i : goal.invariant-loop-i

@@ -1,5 +1,5 @@
 -- `vdaf128::decode_sums` meets its contract. Assumes nothing.
-use mathlib.Core.Path.{◌≡◌, refl, sym, ap, ◌∙◌}
+use mathlib.Core.Path.{◌≡◌, refl, sym, ◌∙◌}
 use mathlib.Core.Bool.{false}
 use mathlib.Core.List.{List}
 use Prim.Native.Nat.{ℕ, ◌+◌, ◌-◌, ◌*◌, ◌/◌, ◌<◌}
@@ -10,7 +10,7 @@ use lib.Ieee.{Float}
 use Rattle.doubles.specs.Doubles.{plus_zero, decoded}
 use Rattle.doubles128.specs.Doubles128.{size_limit128}
 use Rattle.doubles128.specs.Steps.{large}
-use Rattle.rows.proofs.Walk.{walked_end, Walking, walking_next}
+use Rattle.rows.proofs.Walk.{walked_end, walking_next}
 use Rattle.field64.specs.Field.{add_mod}
 use Rattle.field128.specs.Field128.{p128, number_of, elements_of}
 use Rattle.field128.proofs.Pairs.{elements_length}

@@ -2,7 +2,6 @@
 use Rattle.params128.specs.Field128.{Field128}
 use Rattle.field128.proofs.Pairs.{words_of_zeros}
 use Rattle.vdaf.proofs.Effects.{empty_refused, empty_done}
-use borrow.Author.Rules.{rules}
 use Rattle.vdaf128.proofs.empty_aggregate.Goals as goal
 
 pub returns-then-answer-ne0 : goal.returns-then-answer-ne0

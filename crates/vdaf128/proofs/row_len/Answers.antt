@@ -1,6 +1,5 @@
 -- `vdaf128::row_len` meets its contract. Assumes nothing.
 use native.Mathlib.Omega.{arith}
-use borrow.Author.Rules.{rules}
 use Rattle.params128.proofs.Limits.{limits_128}
 use Rattle.vdaf128.proofs.row_len.Goals as goal
 

@@ -1,15 +1,11 @@
 -- `vdaf128::search_sizes` meets its contract. The invariant: the answer for the sums is that for the rest, counted from i. Assumes nothing.
-use mathlib.Core.Path.{◌≡◌, refl, sym, ap, ◌∙◌}
+use mathlib.Core.Path.{◌≡◌}
 use Prim.Native.Nat.{◌-◌, ◌/◌, ◌≤◌}
-use native.Mathlib.Omega.{arith}
-use borrow.Author.Rules.{rules}
-use lib.ListN.{length, get_or, drop}
-use Rattle.rules.specs.declared.Answer.{Answer}
-use Rattle.field128.specs.Field128.{p128, number_of}
-use Rattle.doubles.specs.Doubles.{size_rule}
+use lib.ListN.{length, drop}
+use Rattle.field128.specs.Field128.{p128}
 use Rattle.doubles128.specs.Doubles128.{size_limit128}
 use Rattle.vdaf.specs.Aggregates.{sizes_rule}
-use Rattle.vdaf128.proofs.Sizes.{sums, sums_long, sum_inside, sum_is, sum_below_lem, sizes_next, sizes_stop, sizes_end}
+use Rattle.vdaf128.proofs.Sizes.{sums}
 use Rattle.vdaf128.proofs.search_sizes.Given as goal
 
 abbrev pub invariant-loop-i : goal.invariant-loop-i

@@ -2,7 +2,6 @@
 use Rattle.params128.specs.Field128.{Field128}
 use Rattle.vdaf.proofs.Effects.{accumulate_met, subtract_refused, subtract_done}
 use Rattle.vdaf128.proofs.Verdicts.{rows_ready}
-use borrow.Author.Rules.{rules}
 use Rattle.vdaf128.proofs.subtract.Goals as goal
 
 pub returns-then-answer-ne0 : goal.returns-then-answer-ne0

@@ -1,6 +1,5 @@
 -- `vdaf128::sum_at` meets its contract. Assumes nothing.
 use mathlib.Core.Path.{◌∙◌}
-use borrow.Author.Rules.{rules}
 use Rattle.field64.specs.Field.{add_mod}
 use Rattle.rows.proofs.Elements.{below_at}
 use Rattle.field128.specs.Field128.{p128, elements_of}

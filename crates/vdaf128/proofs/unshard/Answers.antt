@@ -1,5 +1,4 @@
 -- `vdaf128::unshard` meets its contract. Assumes nothing.
-use borrow.Author.Rules.{rules}
 use Rattle.pine.proofs.Sizes.{scale_is}
 use Rattle.params128.specs.Field128.{Field128}
 use Rattle.params128.proofs.Limits.{derivable_128}

@@ -5,7 +5,6 @@ use lib.Dec.{lit<}
 use Rattle.field64.specs.Field.{p64, sub_mod}
 use Rattle.field64.proofs.Sums.{evaluate_below}
 use Rattle.weights.proofs.Weights.{part_fits, part_weighed, bytes_weighed}
-use borrow.Author.Rules.{rules}
 use Rattle.weights.proofs.add_bytes.Goals as goal
 
 pub write_weights-requires : goal.write_weights-requires

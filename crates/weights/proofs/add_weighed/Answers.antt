@@ -1,14 +1,12 @@
 -- `weights::add_weighed` meets its contract: a row whose elements are replaced from the front. Assumes nothing.
-use mathlib.Core.Path.{◌≡◌, refl, ◌∙◌}
+use mathlib.Core.Path.{refl, ◌∙◌}
 use mathlib.Core.List.{List}
 use Prim.Native.Nat.{ℕ, ◌+◌, ◌-◌, ◌*◌, ◌≤◌}
 use native.Mathlib.Omega.{arith}
 use borrow.Author.Rules.{rules}
 use lib.ListN.{length}
 use Rattle.field64.specs.Field.{p64, add_mod}
-use Rattle.rows.proofs.Walk.{Walking}
 use Rattle.flp.specs.Tests.{test_of}
-use Rattle.groups.specs.Groups.{add_group}
 use Rattle.groups.proofs.Each.{small, inside, bytes_long, each_next, each_end}
 use Rattle.weights.proofs.Weights.{pairs_table}
 use Rattle.weights.proofs.add_weighed.Lts as lts

@@ -1,12 +1,11 @@
 -- `weights::plain_sum` meets its contract. Assumes nothing.
-use mathlib.Core.Path.{◌≡◌, ◌∙◌}
-use Prim.Native.Nat.{◌-◌, ◌*◌, ◌%◌, ◌^◌, ◌≤◌, ◌<◌}
-use lib.ListN.{length, take}
+use mathlib.Core.Path.{◌∙◌}
+use Prim.Native.Nat.{◌-◌, ◌<◌}
+use lib.ListN.{length}
 use native.Mathlib.Omega.{arith}
 use borrow.Author.Rules.{rules}
 use lib.Dec.{lit<}
 use Rattle.field64.specs.Field.{p64}
-use Rattle.field64.specs.Sums.{total}
 use Rattle.sums.specs.Unreduced.{halves_of}
 use Rattle.groups.proofs.Each.{step_le, step_fits, step_less}
 use Rattle.weights.proofs.Weights.{sum_start, plain_next, sum_end, half_room, half_next}

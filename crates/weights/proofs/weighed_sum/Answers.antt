@@ -1,12 +1,11 @@
 -- `weights::weighed_sum` meets its contract. Assumes nothing.
-use mathlib.Core.Path.{◌≡◌, ◌∙◌}
-use Prim.Native.Nat.{◌-◌, ◌*◌, ◌%◌, ◌^◌, ◌≤◌, ◌<◌}
-use lib.ListN.{length, take}
+use mathlib.Core.Path.{◌∙◌}
+use Prim.Native.Nat.{◌-◌, ◌<◌}
+use lib.ListN.{length}
 use native.Mathlib.Omega.{arith}
 use borrow.Author.Rules.{rules}
 use lib.Dec.{lit<}
 use Rattle.field64.specs.Field.{p64, mul_mod}
-use Rattle.field64.specs.Sums.{total}
 use Rattle.sums.specs.Unreduced.{halves_of}
 use Rattle.rows.specs.Rows.{by_element}
 use Rattle.rows.proofs.ByElement.{length_by}

@@ -1,17 +1,11 @@
 -- `weights::weighed_sum` meets its contract. Assumes nothing.
-use mathlib.Core.Path.{◌≡◌, ◌∙◌}
-use Prim.Native.Nat.{◌-◌, ◌*◌, ◌%◌, ◌^◌, ◌≤◌, ◌<◌}
+use mathlib.Core.Path.{◌≡◌}
+use Prim.Native.Nat.{◌-◌, ◌*◌, ◌%◌, ◌^◌, ◌≤◌}
 use lib.ListN.{length, take}
-use native.Mathlib.Omega.{arith}
-use borrow.Author.Rules.{rules}
-use lib.Dec.{lit<}
 use Rattle.field64.specs.Field.{p64, mul_mod}
 use Rattle.field64.specs.Sums.{total}
 use Rattle.sums.specs.Unreduced.{halves_of}
 use Rattle.rows.specs.Rows.{by_element}
-use Rattle.rows.proofs.ByElement.{length_by}
-use Rattle.groups.proofs.Each.{step_le, step_fits, step_less}
-use Rattle.weights.proofs.Weights.{weight_at, sum_start, weighed_next, sum_end, half_room, half_next}
 use Rattle.weights.proofs.weighed_sum.Given as goal
 
 abbrev pub invariant-loop-k : goal.invariant-loop-k

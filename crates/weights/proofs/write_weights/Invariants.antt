@@ -1,12 +1,8 @@
 -- `weights::write_weights` meets its contract: a row whose elements are replaced from the front, four for each byte. Assumes nothing.
-use mathlib.Core.Path.{refl, ◌∙◌}
 use Prim.Native.Nat.{◌-◌, ◌*◌, ◌≤◌}
-use native.Mathlib.Omega.{arith}
-use borrow.Author.Rules.{rules}
 use lib.ListN.{length}
-use Rattle.rows.proofs.Walk.{Walking, walked_end}
+use Rattle.rows.proofs.Walk.{Walking}
 use Rattle.weights.specs.Weights.{weights_of}
-use Rattle.weights.proofs.Weights.{weights_long, byte_walked}
 use Rattle.weights.proofs.write_weights.Given as goal
 
 abbrev pub invariant-loop-k : goal.invariant-loop-k

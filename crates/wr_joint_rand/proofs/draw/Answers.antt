@@ -1,5 +1,4 @@
 -- `wr_joint_rand::draw` meets its contract. Assumes nothing.
-use borrow.Author.Rules.{rules}
 use mathlib.Core.Path.{sym, ap, ◌∙◌}
 use lib.Seq.{length-take-le}
 use Rattle.turboshake.specs.Stream.{after}

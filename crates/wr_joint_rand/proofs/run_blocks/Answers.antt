@@ -1,10 +1,10 @@
 -- `wr_joint_rand::run_blocks` meets its contract. Assumes nothing.
-use mathlib.Core.Path.{◌≡◌, refl, sym, ap, subst, ◌∙◌}
-use Prim.Native.Nat.{ℕ, ◌-◌, ◌*◌, ◌≤◌, ◌<◌}
+use mathlib.Core.Path.{refl, sym, ap, subst, ◌∙◌}
+use Prim.Native.Nat.{ℕ, ◌-◌, ◌*◌}
 use native.Mathlib.Omega.{arith}
 use lib.ListN.{length}
 use Rattle.field64.specs.Field.{p64}
-use Rattle.turboshake.specs.Stream.{drawn, after}
+use Rattle.turboshake.specs.Stream.{drawn}
 use native.Mathlib.Nat.{div-le_self}
 use Rattle.groups.proofs.Swapped.{part_long}
 use borrow.Rule.Slice.PartMut.{same_len_mid}

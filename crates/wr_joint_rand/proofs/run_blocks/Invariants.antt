@@ -1,14 +1,10 @@
 -- `wr_joint_rand::run_blocks` meets its contract. Assumes nothing.
-use mathlib.Core.Path.{◌≡◌, refl, sym, ap, subst, ◌∙◌}
-use Prim.Native.Nat.{ℕ, ◌-◌, ◌*◌, ◌≤◌, ◌<◌}
-use native.Mathlib.Omega.{arith}
+use mathlib.Core.Path.{◌≡◌}
+use Prim.Native.Nat.{◌-◌, ◌*◌, ◌≤◌, ◌<◌}
 use lib.ListN.{length}
 use Rattle.field64.specs.Field.{p64}
-use Rattle.turboshake.specs.Stream.{drawn, after}
-use native.Mathlib.Nat.{div-le_self}
-use Rattle.groups.proofs.Swapped.{part_long}
-use borrow.Rule.Slice.PartMut.{same_len_mid}
-use Rattle.wr_joint_rand.proofs.Blocks.{Done, none, next, all, start_is, after_more, Block, block, fewer}
+use Rattle.turboshake.specs.Stream.{after}
+use Rattle.wr_joint_rand.proofs.Blocks.{Done}
 use Rattle.wr_joint_rand.proofs.run_blocks.Given as goal
 
 abbrev pub invariant-loop-t : goal.invariant-loop-t

@@ -1,5 +1,4 @@
 -- `wr_parts::take_both` meets its contract. Assumes nothing.
-use borrow.Author.Rules.{rules}
 use mathlib.Core.Path.{◌≡◌, sym, ◌∙◌}
 use lib.ListN.{length}
 use Rattle.field64.specs.Field.{p64}

@@ -1,5 +1,4 @@
 -- `wr_parts::take_piece` meets its contract. Assumes nothing.
-use borrow.Author.Rules.{rules}
 use mathlib.Core.Path.{sym}
 use lib.ListN.{length}
 use Rattle.wr_parts.proofs.Taking.{part_long}

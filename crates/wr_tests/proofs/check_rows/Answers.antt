@@ -1,6 +1,5 @@
 -- `wr_tests::check_rows` meets its contract. Assumes nothing.
 use mathlib.Core.Path.{ap, ap₂, ◌∙◌}
-use borrow.Author.Rules.{rules}
 use Rattle.rules.specs.Rules.{first}
 use Rattle.wr_tests.proofs.check_rows.Goals as goal
 

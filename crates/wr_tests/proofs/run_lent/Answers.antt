@@ -1,7 +1,6 @@
 -- `wr_tests::run_lent` meets its contract. Assumes nothing.
 use native.Mathlib.Omega.{arith}
 use lib.ListN.{length}
-use borrow.Author.Rules.{rules}
 use Rattle.wr_joint_rand.proofs.Blocks.{short_per}
 use Rattle.wr_tests.proofs.run_lent.Goals as goal
 

@@ -2,7 +2,6 @@
 use mathlib.Core.Path.{sym}
 use native.Mathlib.Nat.{le_of_eq}
 use native.Mathlib.Omega.{arith}
-use borrow.Author.Rules.{rules}
 use Rattle.pine.specs.Param.{Field64}
 use Rattle.pine.proofs.Words.{words_64}
 use Rattle.wr_tests.proofs.Alone.{refused, met, room, done}

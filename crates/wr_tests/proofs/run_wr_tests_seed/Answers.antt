@@ -1,8 +1,6 @@
 -- `wr_tests::run_wr_tests_seed` meets its contract. Assumes nothing.
 use mathlib.Core.Path.{sym}
 use native.Mathlib.Nat.{le_of_eq}
-use native.Mathlib.Omega.{arith}
-use borrow.Author.Rules.{rules}
 use mathlib.Core.List.{List}
 use Prim.Native.Nat.{ℕ}
 use Rattle.pine.specs.Record.{stream_len_of}

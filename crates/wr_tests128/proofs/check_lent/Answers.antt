@@ -8,7 +8,6 @@ use Rattle.pine.proofs.Limits.{limits}
 use Rattle.params128.specs.Field128.{Field128}
 use Rattle.rows.specs.Rows.{row_rule}
 use Rattle.wr_tests.proofs.Alone.{tests_answer, stopped}
-use borrow.Author.Rules.{rules}
 use Rattle.wr_tests128.proofs.check_lent.Lts as lts
 use Rattle.wr_tests128.proofs.check_lent.Reads as reads
 use Rattle.wr_tests128.proofs.check_lent.Tie as tie

@@ -1,5 +1,4 @@
 -- `wr_tests128::check_rows` meets its contract. Assumes nothing.
-use borrow.Author.Rules.{rules}
 use Rattle.wr_tests128.proofs.check_rows.Goals as goal
 
 pub returns : goal.returns

@@ -2,7 +2,6 @@
 use Rattle.params128.specs.Field128.{Field128}
 use Rattle.wr_tests.proofs.Alone.{refused}
 use Rattle.wr_tests128.proofs.Room.{asked, left}
-use borrow.Author.Rules.{rules}
 use Rattle.wr_tests128.proofs.run_wr_tests.Goals as goal
 
 pub returns-then-answer-ne0 : goal.returns-then-answer-ne0

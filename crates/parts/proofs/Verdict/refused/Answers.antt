@@ -1,8 +1,6 @@
 -- `parts::Verdict::refused` meets its contract. Assumes nothing.
 use mathlib.Core.Path.{ap}
-use borrow.Author.Rules.{rules}
 use Rattle.pine.specs.declared.record.Pine.{Pine}
-use Rattle.parts.specs.declared.Verdict.{Verdict}
 use Rattle.parts.proofs.Verdict.refused.Goals as goal
 
 pub returns : goal.returns

@@ -1,5 +1,4 @@
 -- `parts::split::between` meets its contract. Assumes nothing.
-use borrow.Author.Rules.{rules}
 use Rattle.parts.proofs.Places.{between_is}
 use Rattle.parts.proofs.split.between.Goals as goal
 

@@ -1,6 +1,5 @@
 -- `pine_c::wide::pine128_check_param` meets its contract. Assumes nothing.
 use mathlib.Core.Path.{ap, ◌∙◌}
-use borrow.Author.Rules.{rules}
 use Rattle.pine.specs.declared.PineParam.{PineParam}
 use Rattle.pine.specs.Param.{param_answer}
 use Rattle.params128.specs.Field128.{Field128}

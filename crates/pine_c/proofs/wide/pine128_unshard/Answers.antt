@@ -1,6 +1,5 @@
 -- `pine_c::wide::pine128_unshard` meets its contract. Assumes nothing.
 use mathlib.Core.Path.{ap, ◌∙◌}
-use borrow.Author.Rules.{rules}
 use Rattle.pine.specs.declared.PineParam.{PineParam}
 use Rattle.vdaf.specs.Aggregates.{unshard_of}
 use Rattle.params128.specs.Field128.{Field128}

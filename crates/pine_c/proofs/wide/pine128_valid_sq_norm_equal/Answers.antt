@@ -1,6 +1,5 @@
 -- `pine_c::wide::pine128_valid_sq_norm_equal` meets its contract. Assumes nothing.
 use mathlib.Core.Path.{ap, ◌∙◌}
-use borrow.Author.Rules.{rules}
 use Rattle.pine.specs.declared.PineParam.{PineParam}
 use Rattle.pine.specs.Record.{gadget_calls_norm}
 use Rattle.flp.specs.Circuits.{valid_equal_of}

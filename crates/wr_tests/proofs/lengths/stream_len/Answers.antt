@@ -1,7 +1,6 @@
 -- `wr_tests::lengths::stream_len` meets its contract. Assumes nothing.
 use Prim.Native.Nat.{◌+◌, ◌/◌}
 use native.Mathlib.Omega.{arith}
-use borrow.Author.Rules.{rules}
 use Rattle.wr_joint_rand.proofs.Blocks.{few_bytes}
 use Rattle.wr_tests.proofs.lengths.stream_len.Goals as goal
 
