@@ -96,17 +96,9 @@ module _ (p : ℕ) (row : List ℕ) (at end seen r : ℕ) (inside : (at ≤ end)
       let e : get_or part (j - at) 0 ≡ get_or row j 0 = get_or-take (end - at) (drop at row) (j - at) 0 (omega arith) ∙ get_or-drop at row (j - at) 0 ∙ ap (λ (n : ℕ). get_or row n 0) (omega arith) in
       subst (λ (n : ℕ). n < p) e (below_at p part b (j - at) l)
 
-  -- t tells of the row before at and of the part
-  seen_to : (t : ℕ) → (t < 2 ^ 63 → (seen < 2 ^ 63) × Below p part) → ((seen < 2 ^ 63) × Below p part → t < 2 ^ 63) → Seen p row at seen → Seen p row end t
-  seen_to t f g s = (λ k j l. go k j l (ltb j at) refl, λ b. g (s.1 b, below_take p (end - at) (drop at row) (below_drop p at row b)))
-    where
-      go : t < 2 ^ 63 → (j : ℕ) → j < end → (b : Bool) → ltb j at ≡ b → get_or row j 0 < p
-      go k j l true e = s.0 (f k).0 j (ltb-true j at e)
-      go k j l false e = in_part j (ltb-false j at e) l (f k).1
-
   pub seen_part : (r < 2 ^ 63 → Below p part) → (Below p part → r < 2 ^ 63) → Seen p row at seen → Seen p row end (bit_or seen r)
-  seen_part f g = seen_to (bit_or seen r) (λ k. (omega (arith, or_left seen r), f (omega (arith, or_right seen r)))) (λ k. or_lt 63 seen r k.0 (g k.1))
-
-  -- a part with no bad element
-  pub seen_good : Below p part → Seen p row at seen → Seen p row end seen
-  seen_good b = seen_to seen (λ k. (k, b)) (λ k. k.0)
+  seen_part f g s = (λ k j l. go k j l (ltb j at) refl, λ b. or_lt 63 seen r (s.1 b) (g (below_take p (end - at) (drop at row) (below_drop p at row b))))
+    where
+      go : bit_or seen r < 2 ^ 63 → (j : ℕ) → j < end → (t : Bool) → ltb j at ≡ t → get_or row j 0 < p
+      go k j l true e = s.0 (omega (arith, or_left seen r)) j (ltb-true j at e)
+      go k j l false e = in_part j (ltb-false j at e) l (f (omega (arith, or_right seen r)))
