@@ -32,15 +32,15 @@ kit = @command -v rt >/dev/null || { echo "rt is not on the PATH: install the Ra
 	[ "$$(rt version)" = "$$(cat kit)" ] || \
 	echo "warning: the proofs were written for '$$(cat kit)'; installed is '$$(rt version)'" >&2
 
-# rt try runs the program with no proof, four ways, and holds what each writes to the file that is shown then
+# rt try runs the program with no proof, as two compilers make it, and shows what it writes
 demo:
 	$(kit)
-	rt try demo && cat crates/demo/stdout
+	cd crates/demo && rt try
 
 load:
 	$(kit)
 	@mkdir -p build
-	@rt check load >build/load.log 2>&1 || { tail -n 40 build/load.log >&2; echo "not proved: build/load.log has it whole" >&2; exit 1; }
+	@(cd crates/load && rt run <stdin) >build/load.log 2>&1 || { tail -n 40 build/load.log >&2; echo "not proved: build/load.log has it whole" >&2; exit 1; }
 	@SEED='$(SEED)' REPORTS='$(REPORTS)' N='$(N)' D='$(D)' F='$(F)' C='$(C)' E='$(E)' T='$(T)' K='$(K)' NUM='$(NUM)' DEN='$(DEN)' \
 		RULE='$(RULE)' SWITCH='$(SWITCH)' examples/load/run
 
@@ -54,15 +54,14 @@ edits:
 	$(kit)
 	tests/edits/run $(CRATES)
 
-# in build/, for rt ci removes target/
 lib:
 	$(kit)
 	@mkdir -p build
 	@echo "proving the calls and all that they stand on: about 10 minutes from nothing, seconds where all is proved;" \
 		"build/lib.log has the prover's notes"
-	@rt staticlib pine_c >build/lib.log 2>&1 || \
+	@(cd crates/pine_c && rt lib) >build/lib.log 2>&1 || \
 		{ tail -n 40 build/lib.log >&2; echo "not proved: build/lib.log has it whole" >&2; exit 1; }
-	@cp target/staticlib/libpine_c.a include/pine.h build/
+	@cp crates/pine_c/out/libpine_c.a include/pine.h build/
 	@echo "build/libpine_c.a and build/pine.h"
 
 PREFIX = /usr/local
@@ -89,7 +88,7 @@ linked: lib
 differential:
 	$(kit)
 	oracle/differential/run
-	PINE_LIB_DIR=$(CURDIR)/target/staticlib oracle/files/run
+	PINE_LIB_DIR=$(CURDIR)/crates/pine_c/out oracle/files/run
 
 bench:
 	$(kit)

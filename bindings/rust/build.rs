@@ -1,5 +1,5 @@
 //! Finds libpine_c.a: in the folder that PINE_LIB_DIR names, an absolute path; without one in build/ of the repository,
-//! where `make lib` writes it, or else in target/staticlib/, where the prover does.
+//! where `make lib` writes it, or else in crates/pine_c/out/, where the prover does.
 use std::env;
 use std::path::PathBuf;
 
@@ -40,7 +40,7 @@ fn folders() -> Vec<PathBuf> {
     }
     let here = PathBuf::from(env::var_os("CARGO_MANIFEST_DIR").expect("cargo sets it"));
     let root = here.join("../..").canonicalize().unwrap_or(here);
-    vec![root.join("build"), root.join("target/staticlib")]
+    vec![root.join("build"), root.join("crates/pine_c/out")]
 }
 
 fn stop(why: &str) -> ! {

@@ -53,7 +53,7 @@
 //!
 //! The build script takes `libpine_c.a` from the folder that the environment variable `PINE_LIB_DIR` names, an absolute
 //! path; without one from `build/` of the repository, where `make lib` writes it, or else from its
-//! `target/staticlib/`.
+//! `crates/pine_c/out/`.
 //!
 //! # Features
 //!

@@ -28,7 +28,7 @@ fn archive() -> PathBuf {
     let root = Path::new(HERE).join("../..");
     let folders = match env::var_os("PINE_LIB_DIR").filter(|named| !named.is_empty()) {
         Some(named) => vec![PathBuf::from(named)],
-        None => vec![root.join("build"), root.join("target/staticlib")],
+        None => vec![root.join("build"), root.join("crates/pine_c/out")],
     };
     let mut archives = folders.iter().map(|folder| folder.join("libpine_c.a"));
     archives.find(|archive| archive.is_file()).unwrap()
@@ -230,7 +230,7 @@ fn the_archive_is_found_where_the_documentation_says() {
         fs::create_dir_all(folder).unwrap();
         fs::write(folder.join("libpine_c.a"), "").unwrap();
     };
-    let [build, staticlib, named] = ["build", "target/staticlib", "named"].map(|f| root.join(f));
+    let [build, staticlib, named] = ["build", "crates/pine_c/out", "named"].map(|f| root.join(f));
 
     let missing = run(None, "x86_64");
     assert!(!missing.status.success());
