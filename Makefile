@@ -9,7 +9,7 @@
 #:                     needs the kit; about 40 minutes on two processors
 #: make edits          tries the edits that the gate leaves out (tests/edits); CRATES names some
 #:                     needs the kit; about 40 minutes where all is proved
-#: make lib            build/libpine_c.a, proved, with pine.h beside it
+#: make lib            build/libpine_c.a, proved, with pine.h beside it; code for any x86-64
 #:                     needs the kit; about 10 minutes from nothing, seconds where all is proved
 #: make install        copies both, and a file for pkg-config, under PREFIX (/usr/local); DESTDIR goes before that
 #:                     needs make lib, once; at once
@@ -59,7 +59,7 @@ lib:
 	@mkdir -p build
 	@echo "proving the calls and all that they stand on: about 10 minutes from nothing, seconds where all is proved;" \
 		"build/lib.log has the prover's notes"
-	@(cd crates/pine_c && rt lib) >build/lib.log 2>&1 || \
+	@(cd crates/pine_c && rt lib --cpu=x86-64) >build/lib.log 2>&1 || \
 		{ tail -n 40 build/lib.log >&2; echo "not proved: build/lib.log has it whole" >&2; exit 1; }
 	@cp crates/pine_c/out/libpine_c.a include/pine.h build/
 	@echo "build/libpine_c.a and build/pine.h"

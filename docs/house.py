@@ -50,7 +50,7 @@ def apart(left: Node, right: Node) -> float:
 
 def read_crates() -> dict[str, list[str]]:
     lines = (line.split("#")[0] for line in (ROOT / "crates.txt").read_text().splitlines())
-    listed = dict(line.split(":") for line in lines if ":" in line)
+    listed = {name.split()[0]: below for name, below in (line.split(":") for line in lines if ":" in line)}
     return {name.strip(): [d for d in deps.split() if d in listed] for name, deps in listed.items()}
 
 
