@@ -38,8 +38,8 @@
  * and no call gives one.
  *
  * The time of an accepted call depends on the inputs, the lengths and what is public, and of secrets only on a seed's
- * stream, by the values that sampling skips and by the cache lines of the tests' tables, and in pine_f64_to_field and
- * pine128_f64_to_field on whether the coordinate is 0; that was measured, and is not proved (docs/SECRETS.md). pine_cut wipes the stack that it used, and so do encodings and tests but for short ones; what
+ * stream, by the values that sampling skips and by the cache lines of the tests' tables; that was measured, and is not
+ * proved (docs/SECRETS.md). pine_cut wipes the stack that it used, and so do encodings and tests but for short ones; what
  * other calls leave there, and all of them in vector registers, the caller can clear (docs/C.md, "What a call leaves").
  *
  * The archive is code for x86-64 (System V calls, position-independent, no instruction beyond SSE2). All it

@@ -42,8 +42,8 @@
 //!     field numbers, secret, new for each report; the other row is the difference;
 //!   - the joint randomness r1, r2, r3: uniform field numbers that the client could not foresee when it fixed its
 //!     report.
-//! - **Nothing is proved of time.** Of secrets an accepted call's was found to depend on a seed's stream alone, and that
-//!   of `f64_to_field` on whether the coordinate is 0 (docs/SECRETS.md of the repository, which also says what calls leave on their stack).
+//! - **Nothing is proved of time.** Of secrets an accepted call's was found to depend on a seed's stream alone
+//!   (docs/SECRETS.md of the repository, which also says what calls leave on their stack).
 //! - **Nothing is said of privacy**, and no noise is added.
 //! - **No error rate as a whole**: docs/SOUNDNESS.md of the project has that of the main circuit alone.
 //!

@@ -48,6 +48,15 @@ pub extern "C" fn pine128_derive(inputs: Inputs) -> Derived
 pub extern "C" fn pine128_f64_to_field(x: f64, frac_bits: u64) -> Coordinate128
     ensures { coordinate_in result ≡ coordinate_of p128 floor_limit128 x frac_bits }
 {
+    if frac_bits <= doubles::MAX_FRAC_BITS {
+        let scale = doubles::scale_of(frac_bits);
+        if doubles128::refused(x, scale, frac_bits) == 0 {
+            return Coordinate128 {
+                answer: Answer::accepted(),
+                element: doubles128::element_of(x, scale, frac_bits),
+            };
+        }
+    }
     doubles128::f64_to_field(x, frac_bits)
 }
 

@@ -1,4 +1,4 @@
--- What `Soundness` speaks of is there: numbers and triples counted, a well_formed vector and a false one, false ones with their triples counted over 5 numbers. The bound in numbers; Field128's modulus is prime by the same test. Assumes nothing.
+-- What `Soundness` speaks of is there: numbers and triples counted, a well-formed vector and a false one, false ones with their triples counted over 5 numbers. The bound in numbers; Field128's modulus is prime by the same test. Assumes nothing.
 use mathlib.Core.Path.{◌≡◌, refl}
 use mathlib.Core.List.{List, [], ◌∷◌}
 use mathlib.Core.Logic.{⊎_elim}

@@ -45,7 +45,7 @@ pub record Soundness (F : Field) : Type 0 where
   pub all : triples F.p (λ r1 r2 r3. true) ≡ F.p * (F.p * F.p)
   -- none is refused: so a value of zero is the circuit's, and not the one that stands beside a refusal
   pub accepts : (i : PineParam) (full : List ℕ) → FullVector F i full → (r1 r2 r3 : ℕ) → r1 < F.p → r2 < F.p → r3 < F.p → (main F i full r1 r2 r3).answer ≡ accepted
-  -- on a well_formed vector the circuit is zero at every triple
+  -- on a well-formed vector the circuit is zero at every triple
   pub always : (i : PineParam) (full : List ℕ) → FullVector F i full → WellFormed F.p i full → (r1 r2 r3 : ℕ) → r1 < F.p → r2 < F.p → r3 < F.p → main F i full r1 r2 r3 ≡ zero_with (gadget_calls_of i)
   -- on any other, at max (L - 1, T + 1, 3) · p² triples at the most
   pub rarely : (i : PineParam) (full : List ℕ) → FullVector F i full → (WellFormed F.p i full → ⊥) → triples F.p (looks_true F i full) ≤ worst i * (F.p * F.p)

@@ -1,0 +1,2 @@
+-- Laws of the calls on one number.
+pub mod Coordinates
