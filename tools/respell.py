@@ -57,7 +57,6 @@ def rust_names():
     for p in files(".rt"):
         t = re.sub(r"//[^\n]*", "", read(p))
         names |= set(re.findall(r"\b([a-z][a-z0-9_]*)\s*:(?!:)", t))
-        names |= set(re.findall(r"\bfn ([a-z][a-z0-9_]*)", t)) & set()
     return names
 
 

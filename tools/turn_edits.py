@@ -15,7 +15,7 @@ NAMES |= {"getD": "get_or", "bitXor": "bit_xor", "bitAnd": "bit_and", "bitOr": "
 # what port.py had renamed before respell.py
 PORT = {"validOf": "valid_of", "sharesOf": "shares_of", "keysOf": "keys_of", "entryOf": "entry_of", "keyOf": "key_of", "bytesOf": "bytes_of",
         "wordsOf": "words_of", "cutOf": "cut_of", "sizeOf": "size_of", "readOf": "read_of", "maxOf": "max_of", "outOf": "out_of", "upTo": "up_to",
-        "endsAt": "ends_at", "partAt": "part_at", "outOf": "out_of", "toBytes": "to_bytes", "elementAt": "element_at", "wordsIn": "words_in", "fullShare": "full_share", "inRange": "in_range", "dayShares": "day_shares", "natAbs": "nat_abs"}
+        "endsAt": "ends_at", "partAt": "part_at", "toBytes": "to_bytes", "elementAt": "element_at", "wordsIn": "words_in", "fullShare": "full_share", "inRange": "in_range", "dayShares": "day_shares", "natAbs": "nat_abs"}
 TOKEN = re.compile(r"[A-Za-z_][\w'₀-₉-]*")
 
 

@@ -268,8 +268,8 @@ module _ (F : Field) (laws : WordLaws F) (big : 1 < F.p) (i : PineParam) (g : Li
     stream_is = stream_is;
     left_is = refl;
     right_is = refl;
-    wr_seed_lem = wr_is;
-    vf_seed_lem = vf_is;
+    wr_seed_is = wr_is;
+    vf_seed_is = vf_is;
     first_values = first_values;
   }
 

@@ -19,8 +19,8 @@ pub record CutReport (F : Field) (i : PineParam) (gradient : List Float) (nonce 
   pub left_is : report.left ≡ l
   pub right_is : report.right ≡ h
   -- the wraparound seed is the one that servers find of the first elements of both rows, the verification seed that of the whole rows
-  pub wr_seed_lem : take 16 v ≡ wr_joint_rand nonce seeds (take (gradient_and_norm_len i) l) (take (gradient_and_norm_len i) h)
-  pub vf_seed_lem : drop 16 v ≡ vf_joint_rand nonce seeds l h
+  pub wr_seed_is : take 16 v ≡ wr_joint_rand nonce seeds (take (gradient_and_norm_len i) l) (take (gradient_and_norm_len i) h)
+  pub vf_seed_is : drop 16 v ≡ vf_joint_rand nonce seeds l h
   -- the helper's row is the first values below p of its stream, in their order, however far that is drawn beyond the limit
   pub first_values : (k : ℕ) → draw_limit (encoded_input_len_of i) ≤ k → h ≡ take (encoded_input_len_of i) (values_of F.p k (helper_bytes k seeds))
 

@@ -1,2 +1,2 @@
--- Laws of the calls on one number.
+-- A law of the calls on one coordinate.
 pub mod Coordinates
