@@ -1,5 +1,6 @@
 -- Laws of rule 12: elements below p, in one row or in rows joined. Assumes nothing.
-use Rattle.std.proofs.Common.{◌≡◌, ℕ, zero, suc, ◌+◌, ◌<◌, ◌≤◌, Bool, true, false, cond, ltb, List, [], ◌∷◌, ◌++◌, length, get_or, take, drop, sym, refl, ap, ◌∙◌, zero-add, add-one, arith, length-append, drop-cons, ltb-false, ltb-true, le-ltb, lt-ltb}
+use Rattle.std.proofs.Common.{◌≡◌, ℕ, zero, suc, ◌+◌, ◌<◌, ◌≤◌, Bool, true, false, cond, ltb, List, [], ◌∷◌, ◌++◌, length, get_or, take, drop, sym, refl, ap, ◌∙◌, zero-add, add-one, arith, length-append, drop-cons, leb, tests, Option, Some, None, unwrap_or, ltb-false, ltb-true, le-ltb, lt-ltb}
+use Rattle.std.specs.List.{position_or_len}
 use Rattle.rules.specs.declared.Answer.{Answer}
 use Rattle.rules.specs.Rules.{accepted, first}
 use Rattle.rules.proofs.Chain.{not_so, first_passed}
@@ -116,3 +117,19 @@ right_elements p k xs f = rw (le-ltb (first_bad p xs) (length xs) (omega (arith,
 
 pub elements_below : (p k : ℕ) (xs : List ℕ) → (elements_from p k xs).number ≡ 0 → Below p xs
 elements_below p k xs h = all_below_lem p xs (ltb-false _ _ (not_so (ltb (first_bad p xs) (length xs)) 11 (k + first_bad p xs) h))
+
+-- ---- the first bad element is the place that a search finds, or the length where it finds none
+
+first_bad_position : (p : ℕ) (xs : List ℕ) → position_or_len (leb p) xs ≡ first_bad p xs
+first_bad_position p [] = refl
+first_bad_position p (x ∷ xs) = grind (arith, tests, first_bad_position p xs)
+
+first_bad_within : (p : ℕ) (xs : List ℕ) → first_bad p xs ≤ length xs
+first_bad_within p [] = omega arith
+first_bad_within p (x ∷ xs) = grind (arith, first_bad_within p xs)
+
+or_else : (n i : ℕ) → i ≤ n → unwrap_or (cond (ltb i n) (Some i) None) n ≡ i
+or_else n i h = grind (arith, tests)
+
+pub first_bad_found : (p : ℕ) (xs : List ℕ) (found : Option ℕ) → found ≡ cond (ltb (position_or_len (leb p) xs) (length xs)) (Some (position_or_len (leb p) xs)) None → unwrap_or found (length xs) ≡ first_bad p xs
+first_bad_found p xs found e = rw (e, first_bad_position p xs) (or_else _ _ (first_bad_within p xs))

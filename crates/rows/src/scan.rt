@@ -24,10 +24,8 @@ fn part_carries(part: &[u64]) -> u64
     ensures upper_bound { Below p64 part.now → result < 2 ^ 63 }
 {
     let mut seen = 0;
-    let mut i = 0;
-    while i < part.len() {
-        seen = or_carry(seen, part[i]);
-        i += 1;
+    for &x in part {
+        seen = or_carry(seen, x);
     }
     seen
 }
@@ -51,14 +49,9 @@ pub fn carries(row: &[u64]) -> u64
 fn search(row: &[u64]) -> usize
     ensures { result ≡ first_bad p64 row.now }
 {
-    let mut i = 0;
-    while i < row.len() {
-        if row[i] >= field64::P {
-            return i;
-        }
-        i += 1;
-    }
-    i
+    row.iter()
+        .position(|&x| x >= field64::P)
+        .unwrap_or(row.len())
 }
 
 // The same: only a row with a carry is searched.

@@ -7,6 +7,3 @@ use Rattle.rows.proofs.add_rows.Given as goal
 -- the invariant: the row is the sums up to i, and as it was from there
 abbrev pub invariant-loop-i : goal.invariant-loop-i
 invariant-loop-i l = Joining (add_mod p64) l.initial.agg l.share l.agg l.i
-
-abbrev pub decreases-loop-i : goal.decreases-loop-i
-decreases-loop-i l = length l.initial.agg - l.i
