@@ -20,52 +20,44 @@ After-plus_pair-three = lts.After-plus_pair3 tie.the-claims reads.Pre reads.Post
 -- the sum after each of the first three
 one : (c : After-plus_pair-one) → Summed c.args.xs.now c.args.bytes.now (4 * c.args.j + 1) c.plus_pair-one.result
 one c =
-    let s = c in
-    first_pair s.args.xs.now s.args.bytes.now s.requires.below.1.1.1 s.args.j _ _ (omega (arith, s.requires.below.1)) s.requires.summed c.plus_pair-one.ensures
+    first_pair c.args.xs.now c.args.bytes.now c.requires.below.1.1.1 c.args.j _ _ (omega (arith, c.requires.below.1)) c.requires.summed c.plus_pair-one.ensures
 
 two : (c : After-plus_pair-two) → Summed c.args.xs.now c.args.bytes.now (4 * c.args.j + 2) c.plus_pair-two.result
 two c =
-    let s = c in
-    second_pair s.args.xs.now s.args.bytes.now s.requires.below.1.1.1 s.args.j _ _ (omega (arith, s.requires.below.1)) (one c.before) c.plus_pair-two.ensures
+    second_pair c.args.xs.now c.args.bytes.now c.requires.below.1.1.1 c.args.j _ _ (omega (arith, c.requires.below.1)) (one c.before) c.plus_pair-two.ensures
 
 three : (c : After-plus_pair-three) → Summed c.args.xs.now c.args.bytes.now (4 * c.args.j + 3) c.plus_pair-three.result
 three c =
-    let s = c in
-    third_pair s.args.xs.now s.args.bytes.now s.requires.below.1.1.1 s.args.j _ _ (omega (arith, s.requires.below.1)) (two c.before) c.plus_pair-three.ensures
+    third_pair c.args.xs.now c.args.bytes.now c.requires.below.1.1.1 c.args.j _ _ (omega (arith, c.requires.below.1)) (two c.before) c.plus_pair-three.ensures
 
 pub overflow_mul-k : goal.overflow_mul-k
 overflow_mul-k c = record { fits = omega (arith, c.requires.below.1) }
 
 pub plus_pair-one-requires : goal.plus_pair-one-requires
 plus_pair-one-requires c =
-    let s = c in
-    (s.requires.below.0, (omega (arith, s.requires.below.1), omega (arith, s.requires.below.1, s.requires.summed.0)))
+    (c.requires.below.0, (omega (arith, c.requires.below.1), omega (arith, c.requires.below.1, c.requires.summed.0)))
 
 pub overflow_add-k : goal.overflow_add-k
 overflow_add-k c = record { fits = omega (arith, c.requires.below.1) }
 
 pub plus_pair-two-requires : goal.plus_pair-two-requires
 plus_pair-two-requires c =
-    let s = c in
-    (s.requires.below.0, (omega (arith, s.requires.below.1), omega (arith, s.requires.below.1, (one c.before).0)))
+    (c.requires.below.0, (omega (arith, c.requires.below.1), omega (arith, c.requires.below.1, (one c.before).0)))
 
 pub overflow_add-k-2 : goal.overflow_add-k-2
 overflow_add-k-2 c = record { fits = omega (arith, c.requires.below.1) }
 
 pub plus_pair-three-requires : goal.plus_pair-three-requires
 plus_pair-three-requires c =
-    let s = c in
-    (s.requires.below.0, (omega (arith, s.requires.below.1), omega (arith, s.requires.below.1, (two c.before).0)))
+    (c.requires.below.0, (omega (arith, c.requires.below.1), omega (arith, c.requires.below.1, (two c.before).0)))
 
 pub overflow_add-k-3 : goal.overflow_add-k-3
 overflow_add-k-3 c = record { fits = omega (arith, c.requires.below.1) }
 
 pub plus_pair-requires : goal.plus_pair-requires
 plus_pair-requires c =
-    let s = c in
-    (s.requires.below.0, (omega (arith, s.requires.below.1), omega (arith, s.requires.below.1, (three c.before).0)))
+    (c.requires.below.0, (omega (arith, c.requires.below.1), omega (arith, c.requires.below.1, (three c.before).0)))
 
 pub returns : goal.returns
 returns c =
-    let s = c in
-    fourth_pair s.args.xs.now s.args.bytes.now s.requires.below.1.1.1 s.args.j _ _ (omega (arith, s.requires.below.1)) (three c.before.before) c.plus_pair.ensures
+    fourth_pair c.args.xs.now c.args.bytes.now c.requires.below.1.1.1 c.args.j _ _ (omega (arith, c.requires.below.1)) (three c.before.before) c.plus_pair.ensures

@@ -8,10 +8,8 @@ use Rattle.byte_columns.proofs.plus_pair.Goals as goal
 
 pub weighed_by-requires : goal.weighed_by-requires
 weighed_by-requires c =
-    let s = c in
-    below_at p64 s.args.xs.now s.requires.0 s.args.k s.requires.1.0
+    below_at p64 c.args.xs.now c.requires.0 c.args.k c.requires.1.0
 
 pub returns : goal.returns
 returns c =
-    let s = c in
-    (plus_weighed s.args.pair (get_or s.args.xs.now s.args.k 0) c.weighed_by.result (total_of s.args.sum) _ c.plus.ensures.0 c.weighed_by.ensures, c.plus.ensures.1)
+    (plus_weighed c.args.pair (get_or c.args.xs.now c.args.k 0) c.weighed_by.result (total_of c.args.sum) _ c.plus.ensures.0 c.weighed_by.ensures, c.plus.ensures.1)

@@ -16,9 +16,7 @@ In-loop-t = lts.In-loop tie.the-claims reads.Pre reads.Post goal.the-invariant-l
 -- the bytes of a test are in the stream
 fits : (c : In-loop-t) → c.loop-t.t * c.args.per + c.args.per ≤ length c.args.stream.now
 fits c =
-    let l = c in
-    let s = l in
-    bytes_inside s.args.per s.args.gradient.now s.args.stream.now s.args.results.now l.loop-t.results l.loop-t.t l.loop-t.invariant c.loop-t-test.true s.requires.per_in_bounds.0
+    bytes_inside c.args.per c.args.gradient.now c.args.stream.now c.args.results.now c.loop-t.results c.loop-t.t c.loop-t.invariant c.loop-t-test.true c.requires.per_in_bounds.0
 
 pub loop-t-init : goal.loop-t-init
 loop-t-init c = (search rules, refl, refl)
@@ -40,10 +38,8 @@ slice_bounds-test_of-end c = omega (arith, fits c.before)
 
 pub test_of-requires : goal.test_of-requires
 test_of-requires c =
-    let l = c in
-    let s = l in
-    let e = part_long s.args.per s.args.gradient.now s.args.stream.now s.args.results.now l.loop-t.results l.loop-t.t l.loop-t.invariant c.loop-t-test.true s.requires.per_in_bounds.0 in
-    (s.requires.below, (omega (arith, s.requires.per_in_bounds.1), rw e s.requires.per_in_bounds.1.0))
+    let e = part_long c.args.per c.args.gradient.now c.args.stream.now c.args.results.now c.loop-t.results c.loop-t.t c.loop-t.invariant c.loop-t-test.true c.requires.per_in_bounds.0 in
+    (c.requires.below, (omega (arith, c.requires.per_in_bounds.1), rw e c.requires.per_in_bounds.1.0))
 
 pub offset_bounds-results-t : goal.offset_bounds-results-t
 offset_bounds-results-t c = omega arith
@@ -59,15 +55,11 @@ loop-t-smaller c = omega arith
 
 pub loop-t-preserved : goal.loop-t-preserved
 loop-t-preserved c =
-    let l = c in
-    let s = l in
-    results_next s.args.per s.args.gradient.now s.args.stream.now s.args.results.now l.loop-t.results l.loop-t.t l.loop-t.invariant c.loop-t-test.true s.requires.per_in_bounds.0 c.test_of.result c.test_of.ensures
+    results_next c.args.per c.args.gradient.now c.args.stream.now c.args.results.now c.loop-t.results c.loop-t.t c.loop-t.invariant c.loop-t-test.true c.requires.per_in_bounds.0 c.test_of.result c.test_of.ensures
 
 pub shape_of-results : goal.shape_of-results
 shape_of-results c = c.loop-t.invariant.1
 
 pub returns : goal.returns
 returns c =
-    let l = c in
-    let s = l in
-    results_end s.args.per s.args.gradient.now s.args.stream.now s.args.results.now l.loop-t.results l.loop-t.t l.loop-t.invariant (omega arith)
+    results_end c.args.per c.args.gradient.now c.args.stream.now c.args.results.now c.loop-t.results c.loop-t.t c.loop-t.invariant (omega arith)

@@ -7,15 +7,13 @@ use Rattle.byte_columns.proofs.test_of.Goals as goal
 
 pub loop-j-init : goal.loop-j-init
 loop-j-init c =
-    let s = c in
-    (omega arith, summed_none s.args.xs.now s.args.bytes.now s.requires.1.1 _ c.none-sum.ensures)
+    (omega arith, summed_none c.args.xs.now c.args.bytes.now c.requires.1.1 _ c.none-sum.ensures)
 
 pub plus_byte-sum-requires : goal.plus_byte-sum-requires
 plus_byte-sum-requires c =
-    let s = c in
     record {
       summed = c.loop-j.invariant.1;
-      below = (s.requires.0, (omega (arith, c.loop-j-test.true), s.requires.1));
+      below = (c.requires.0, (omega (arith, c.loop-j-test.true), c.requires.1));
     }
 
 pub overflow_add-j : goal.overflow_add-j
@@ -26,28 +24,22 @@ loop-j-smaller c = omega (arith, c.loop-j-test.true)
 
 pub loop-j-preserved : goal.loop-j-preserved
 loop-j-preserved c =
-    let s = c in
-    (omega (arith, c.loop-j-test.true), summed_as s.args.xs.now s.args.bytes.now s.requires.1.1 _ _ _ (omega arith) c.plus_byte-sum.ensures)
+    (omega (arith, c.loop-j-test.true), summed_as c.args.xs.now c.args.bytes.now c.requires.1.1 _ _ _ (omega arith) c.plus_byte-sum.ensures)
 
 pub overflow_mul-j : goal.overflow_mul-j
 overflow_mul-j c = record { fits = omega (arith, c.loop-j.invariant.0, c.requires.1) }
 
 pub plus_last-requires : goal.plus_last-requires
 plus_last-requires c =
-    let l = c in
-    let s = l in
     record {
-      summed = l.loop-j.invariant.1;
-      below = (s.requires.0, (c.if-j-xs.true, (omega (arith, c.loop-j-test.false), s.requires.1)));
+      summed = c.loop-j.invariant.1;
+      below = (c.requires.0, (c.if-j-xs.true, (omega (arith, c.loop-j-test.false), c.requires.1)));
     }
 
 pub returns-then-j-xs : goal.returns-then-j-xs
 returns-then-j-xs c =
-    let s = c in
-    c.reduced.ensures ∙ summed_all s.args.xs.now s.args.bytes.now s.requires.1.1 _ _ (omega arith) c.plus_last.ensures
+    c.reduced.ensures ∙ summed_all c.args.xs.now c.args.bytes.now c.requires.1.1 _ _ (omega arith) c.plus_last.ensures
 
 pub returns : goal.returns
 returns c =
-    let l = c in
-    let s = l in
-    c.reduced-2.ensures ∙ summed_all s.args.xs.now s.args.bytes.now s.requires.1.1 _ _ c.if-j-xs.false l.loop-j.invariant.1
+    c.reduced-2.ensures ∙ summed_all c.args.xs.now c.args.bytes.now c.requires.1.1 _ _ c.if-j-xs.false c.loop-j.invariant.1

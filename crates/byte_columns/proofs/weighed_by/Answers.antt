@@ -8,13 +8,11 @@ use Rattle.byte_columns.proofs.weighed_by.Goals.{then-pair-eq0, else-pair-eq0}
 
 pub returns-then-pair-eq3 : goal.returns-then-pair-eq3
 returns-then-pair-eq3 c =
-    let s = c in
-    three_adds s.args.pair s.args.x c.if-pair-eq3.true s.requires
+    three_adds c.args.pair c.args.x c.if-pair-eq3.true c.requires
 
 pub returns-else-pair-eq3 : goal.returns-else-pair-eq3
 returns-else-pair-eq3 c =
-    let s = c in
     elim c.if-pair-eq0.branch [
-      | then-pair-eq0 w ↦ ap (λ (n : ℕ). n % p64) w.subtracted-is ∙ zero_subtracts s.args.pair s.args.x w.if-pair-eq0.true
-      | else-pair-eq0 w ↦ ap (λ (n : ℕ). n % p64) w.subtracted-is ∙ others_skip s.args.pair s.args.x w.if-pair-eq0.false c.if-pair-eq3.false
+      | then-pair-eq0 w ↦ ap (λ (n : ℕ). n % p64) w.subtracted-is ∙ zero_subtracts c.args.pair c.args.x w.if-pair-eq0.true
+      | else-pair-eq0 w ↦ ap (λ (n : ℕ). n % p64) w.subtracted-is ∙ others_skip c.args.pair c.args.x w.if-pair-eq0.false c.if-pair-eq3.false
     ]

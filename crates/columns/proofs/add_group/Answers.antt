@@ -24,21 +24,17 @@ slice_bounds-add_weighed-end c = omega (arith, few c.before)
 
 pub add_weighed-requires : goal.add_weighed-requires
 add_weighed-requires c =
-    let i = c in
-    let s = i in
-    let n = s.args.n in
+    let n = c.args.n in
     record {
-      per_in_bounds = (s.requires.per_in_bounds.0, (s.requires.per_in_bounds.1.0, rw (sub-zero (4 * n)) (length-take-le (4 * n) s.args.spare.now (few i.before.before.before).1)));
-      below = (s.requires.below.0, (omega (arith, few i.before.before.before, s.requires.below.1.0), s.requires.below.1.0));
-      below_2 = s.requires.below_2;
+      per_in_bounds = (c.requires.per_in_bounds.0, (c.requires.per_in_bounds.1.0, rw (sub-zero (4 * n)) (length-take-le (4 * n) c.args.spare.now (few c.before.before.before).1)));
+      below = (c.requires.below.0, (omega (arith, few c.before.before.before, c.requires.below.1.0), c.requires.below.1.0));
+      below_2 = c.requires.below_2;
     }
 
 pub add_tabled-requires : goal.add_tabled-requires
 add_tabled-requires c =
-    let i = c in
-    let s = i in
     record {
-      per_in_bounds = (s.requires.per_in_bounds.0, (s.requires.per_in_bounds.1.0, omega (arith, room_many _ s.args.n i.if-results-le-FEW.false, s.requires.below.1.1)));
-      below = s.requires.below.0;
-      below_2 = s.requires.below_2;
+      per_in_bounds = (c.requires.per_in_bounds.0, (c.requires.per_in_bounds.1.0, omega (arith, room_many _ c.args.n c.if-results-le-FEW.false, c.requires.below.1.1)));
+      below = c.requires.below.0;
+      below_2 = c.requires.below_2;
     }

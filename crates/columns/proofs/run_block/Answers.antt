@@ -20,36 +20,32 @@ tables_fit tests width h e = rw e ((omega arith, omega arith), omega (arith, roo
 
 pub run_groups-requires : goal.run_groups-requires
 run_groups-requires c =
-    let s = c in
     record {
-      per_in_bounds = s.requires.per_in_bounds;
-      below = (s.requires.below, ((omega arith, omega arith), omega (arith, room_few (length s.args.results.now) 4 c.if-few.true)));
+      per_in_bounds = c.requires.per_in_bounds;
+      below = (c.requires.below, ((omega arith, omega arith), omega (arith, room_few (length c.args.results.now) 4 c.if-few.true)));
     }
 
 pub run_groups-requires-then-gradient-le-TINY : goal.run_groups-requires-then-gradient-le-TINY
 run_groups-requires-then-gradient-le-TINY c =
-    let s = c in
     record {
-      per_in_bounds = s.requires.per_in_bounds;
-      below = (s.requires.below, ((omega arith, omega arith), omega (arith, room_many (length s.args.results.now) 4 c.if-few.false)));
+      per_in_bounds = c.requires.per_in_bounds;
+      below = (c.requires.below, ((omega arith, omega arith), omega (arith, room_many (length c.args.results.now) 4 c.if-few.false)));
     }
 
 pub run_groups-requires-then-gradient-le-SHORT : goal.run_groups-requires-then-gradient-le-SHORT
 run_groups-requires-then-gradient-le-SHORT c =
-    let s = c in
     record {
-      per_in_bounds = s.requires.per_in_bounds;
-      below = (s.requires.below, ((omega arith, omega arith), omega (arith, room_few (length s.args.results.now) 16 c.if-few-2.true)));
+      per_in_bounds = c.requires.per_in_bounds;
+      below = (c.requires.below, ((omega arith, omega arith), omega (arith, room_few (length c.args.results.now) 16 c.if-few-2.true)));
     }
 
 pub run_groups-requires-2 : goal.run_groups-requires-2
 run_groups-requires-2 c =
-    let s = c in
-    let tests = length s.args.results.now in
+    let tests = length c.args.results.now in
     record {
-      per_in_bounds = s.requires.per_in_bounds;
+      per_in_bounds = c.requires.per_in_bounds;
       below = (
-        s.requires.below,
+        c.requires.below,
         elim c.if-few-3.branch [
           | then-few-3 w ↦ weights_fit tests _ w.if-few-3.true w.width-is
           | else-few-3 w ↦ tables_fit tests _ w.if-few-3.false w.width-is

@@ -21,8 +21,7 @@ fits g = group_fits _ _ _ _ _ g.loop-j-test.true g.requires.below.1.0.0 g.group_
 
 pub loop-j-init : goal.loop-j-init
 loop-j-init c =
-    let s = c in
-    (omega arith, refl, refl, groups_start p64 s.args.per s.args.stream.now s.args.gradient.now _ s.args.results.now c.zero_row.ensures)
+    (omega arith, refl, refl, groups_start p64 c.args.per c.args.stream.now c.args.gradient.now _ c.args.results.now c.zero_row.ensures)
 
 pub group_from-group-requires : goal.group_from-group-requires
 group_from-group-requires c = (c.loop-j-test.true, (omega (arith, c.requires.below.1.0.1), c.requires.per_in_bounds.1.1))
@@ -44,19 +43,15 @@ slice_bounds-add_group-end c = omega (arith, fits c.before.before)
 
 pub add_group-requires : goal.add_group-requires
 add_group-requires c =
-    let g = c in
-    let l = g in
-    let z = l in
-    let s = z in
-    let r = g.group_from-group.result in
-    let xs = s.args.gradient.now in
-    let long : length (take (r.last - r.first) (drop r.first xs)) ≤ 4 * (r.end - l.loop-j.j) = rw (part_long r.first r.last xs (fits g.before.before.before.before.before).in_order (fits g.before.before.before.before.before).coordinates) (fits g.before.before.before.before.before).few_coordinates in
-    let T = l.loop-j.invariant.2 ∙ z.zero_row.auto.row in
-    let room = room_less _ _ (r.end - l.loop-j.j) s.args.width _ _ T l.loop-j.invariant.1 (fits g.before.before.before.before.before).few s.requires.below.1.1 in
+    let r = c.group_from-group.result in
+    let xs = c.args.gradient.now in
+    let long : length (take (r.last - r.first) (drop r.first xs)) ≤ 4 * (r.end - c.loop-j.j) = rw (part_long r.first r.last xs (fits c.before.before.before.before.before).in_order (fits c.before.before.before.before.before).coordinates) (fits c.before.before.before.before.before).few_coordinates in
+    let T = c.loop-j.invariant.2 ∙ c.zero_row.auto.row in
+    let room = room_less _ _ (r.end - c.loop-j.j) c.args.width _ _ T c.loop-j.invariant.1 (fits c.before.before.before.before.before).few c.requires.below.1.1 in
     record {
-      per_in_bounds = (same_room _ _ s.args.per _ T s.requires.per_in_bounds.0, (omega (arith, fits g.before.before.before.before.before), omega (arith, (fits g.before.before.before.before.before).few, s.requires.below.1.0.1)));
-      below = (below_take p64 (r.last - r.first) (drop r.first xs) (below_drop p64 r.first xs s.requires.below.0), (long, room));
-      below_2 = groups_below p64 s.args.per s.args.stream.now xs l.loop-j.results l.loop-j.j _ (lit< tt) l.loop-j.invariant.3;
+      per_in_bounds = (same_room _ _ c.args.per _ T c.requires.per_in_bounds.0, (omega (arith, fits c.before.before.before.before.before), omega (arith, (fits c.before.before.before.before.before).few, c.requires.below.1.0.1)));
+      below = (below_take p64 (r.last - r.first) (drop r.first xs) (below_drop p64 r.first xs c.requires.below.0), (long, room));
+      below_2 = groups_below p64 c.args.per c.args.stream.now xs c.loop-j.results c.loop-j.j _ (lit< tt) c.loop-j.invariant.3;
     }
 
 pub loop-j-smaller : goal.loop-j-smaller
@@ -64,14 +59,10 @@ loop-j-smaller c = omega (arith, fits c.before.before.before.before.before.befor
 
 pub loop-j-preserved : goal.loop-j-preserved
 loop-j-preserved c =
-    let g = c in
-    let l = g in
-    let z = l in
-    let s = z in
     let a = c.add_group in
-    let xs = s.args.gradient.now in
-    let h : (l.loop-j.j ≤ g.group_from-group.result.end) × (g.group_from-group.result.end ≤ s.args.per) = (omega (arith, fits g.before.before.before.before.before.before.before.before.before.before), (fits g.before.before.before.before.before.before.before.before.before.before).inside) in
-    ((fits g.before.before.before.before.before.before.before.before.before.before).inside, a.auto.spare ∙ l.loop-j.invariant.1, a.auto.results ∙ l.loop-j.invariant.2, groups_next p64 s.args.per s.args.stream.now xs l.loop-j.results l.loop-j.j g.group_from-group.result.end _ _ _ _ (lit< tt) h refl (group_cut l.loop-j.j _ s.args.per xs g.group_from-group.result g.loop-j-test.true g.group_from-group.ensures) l.loop-j.invariant.3 a.ensures)
+    let xs = c.args.gradient.now in
+    let h : (c.loop-j.j ≤ c.group_from-group.result.end) × (c.group_from-group.result.end ≤ c.args.per) = (omega (arith, fits c.before.before.before.before.before.before.before.before.before.before), (fits c.before.before.before.before.before.before.before.before.before.before).inside) in
+    ((fits c.before.before.before.before.before.before.before.before.before.before).inside, a.auto.spare ∙ c.loop-j.invariant.1, a.auto.results ∙ c.loop-j.invariant.2, groups_next p64 c.args.per c.args.stream.now xs c.loop-j.results c.loop-j.j c.group_from-group.result.end _ _ _ _ (lit< tt) h refl (group_cut c.loop-j.j _ c.args.per xs c.group_from-group.result c.loop-j-test.true c.group_from-group.ensures) c.loop-j.invariant.3 a.ensures)
 
 pub shape_of-spare : goal.shape_of-spare
 shape_of-spare c = c.loop-j.invariant.1
@@ -81,8 +72,5 @@ shape_of-results c = c.loop-j.invariant.2 ∙ c.zero_row.auto.row
 
 pub returns : goal.returns
 returns c =
-    let l = c in
-    let z = l in
-    let s = z in
-    groups_end p64 s.args.per s.args.stream.now s.args.gradient.now l.loop-j.results l.loop-j.j _ c.loop-j-test.false s.requires.per_in_bounds.1.0 l.loop-j.invariant.3
-    ∙ ap (λ (n : ℕ). tests_of p64 s.args.per n s.args.stream.now s.args.gradient.now) z.zero_row.auto.row
+    groups_end p64 c.args.per c.args.stream.now c.args.gradient.now c.loop-j.results c.loop-j.j _ c.loop-j-test.false c.requires.per_in_bounds.1.0 c.loop-j.invariant.3
+    ∙ ap (λ (n : ℕ). tests_of p64 c.args.per n c.args.stream.now c.args.gradient.now) c.zero_row.auto.row

@@ -8,52 +8,44 @@ use Rattle.columns128.proofs.add_limbs.Goals as goal
 
 pub add_reduced-requires : goal.add_reduced-requires
 add_reduced-requires c =
-    let i = c in
-    let s = c in
-    let T = length s.args.low.now in
-    let m = few_modulus T i.if-low-le-FEW.true in
-    let fit = weights_fit T s.args.n _ i.if-low-le-FEW.true s.requires.per_in_bounds.1.1 s.requires.part_len_bound.1 in
-    let below = s.requires.below in
+    let T = length c.args.low.now in
+    let m = few_modulus T c.if-low-le-FEW.true in
+    let fit = weights_fit T c.args.n _ c.if-low-le-FEW.true c.requires.per_in_bounds.1.1 c.requires.part_len_bound.1 in
+    let below = c.requires.below in
     record {
-      per_in_bounds = (s.requires.per_in_bounds.0, (s.requires.per_in_bounds.1.0, fit.0));
-      row_len = s.requires.row_len;
-      part_len_bound = (s.requires.part_len_bound.0, fit.1);
-      middle_len = s.requires.middle_len;
-      below = (below_by _ _ s.args.low.now m below.0, (below_by _ _ s.args.middle.now m below.1.0, below_by _ _ s.args.high.now m below.1.1));
+      per_in_bounds = (c.requires.per_in_bounds.0, (c.requires.per_in_bounds.1.0, fit.0));
+      row_len = c.requires.row_len;
+      part_len_bound = (c.requires.part_len_bound.0, fit.1);
+      middle_len = c.requires.middle_len;
+      below = (below_by _ _ c.args.low.now m below.0, (below_by _ _ c.args.middle.now m below.1.0, below_by _ _ c.args.high.now m below.1.1));
     }
 
 pub returns-then-low-le-FEW : goal.returns-then-low-le-FEW
 returns-then-low-le-FEW c =
     let a = c.add_reduced in
-    let i = c in
-    let s = c in
-    let xs = elements_of s.args.part.now in
-    let m = sym (few_modulus (length s.args.low.now) i.if-low-le-FEW.true) in
+    let xs = elements_of c.args.part.now in
+    let m = sym (few_modulus (length c.args.low.now) c.if-low-le-FEW.true) in
     record {
-      low_after = added_by _ _ s.args.per s.args.j s.args.n (limbs 0 xs) s.args.stream.now s.args.low.now _ m a.ensures.low_after;
-      middle_after = added_by _ _ s.args.per s.args.j s.args.n (limbs 1 xs) s.args.stream.now s.args.middle.now _ m a.ensures.middle_after;
-      high_after = added_by _ _ s.args.per s.args.j s.args.n (limbs 2 xs) s.args.stream.now s.args.high.now _ m a.ensures.high_after;
+      low_after = added_by _ _ c.args.per c.args.j c.args.n (limbs 0 xs) c.args.stream.now c.args.low.now _ m a.ensures.low_after;
+      middle_after = added_by _ _ c.args.per c.args.j c.args.n (limbs 1 xs) c.args.stream.now c.args.middle.now _ m a.ensures.middle_after;
+      high_after = added_by _ _ c.args.per c.args.j c.args.n (limbs 2 xs) c.args.stream.now c.args.high.now _ m a.ensures.high_after;
     }
 
 pub add_tabled-requires : goal.add_tabled-requires
 add_tabled-requires c =
-    let i = c in
-    let s = c in
     record {
-      per_in_bounds = (s.requires.per_in_bounds.0, (s.requires.per_in_bounds.1.0, tables_fit (length s.args.low.now) s.args.n _ i.if-low-le-FEW.false s.requires.per_in_bounds.1.1 s.requires.part_len_bound.1));
-      row_len = s.requires.row_len;
-      middle_len = s.requires.middle_len;
+      per_in_bounds = (c.requires.per_in_bounds.0, (c.requires.per_in_bounds.1.0, tables_fit (length c.args.low.now) c.args.n _ c.if-low-le-FEW.false c.requires.per_in_bounds.1.1 c.requires.part_len_bound.1));
+      row_len = c.requires.row_len;
+      middle_len = c.requires.middle_len;
     }
 
 pub returns : goal.returns
 returns c =
     let a = c.add_tabled in
-    let i = c in
-    let s = c in
-    let xs = elements_of s.args.part.now in
-    let m = sym (many_modulus (length s.args.low.now) i.if-low-le-FEW.false) in
+    let xs = elements_of c.args.part.now in
+    let m = sym (many_modulus (length c.args.low.now) c.if-low-le-FEW.false) in
     record {
-      low_after = added_by _ _ s.args.per s.args.j s.args.n (limbs 0 xs) s.args.stream.now s.args.low.now _ m a.ensures.low_after;
-      middle_after = added_by _ _ s.args.per s.args.j s.args.n (limbs 1 xs) s.args.stream.now s.args.middle.now _ m a.ensures.middle_after;
-      high_after = added_by _ _ s.args.per s.args.j s.args.n (limbs 2 xs) s.args.stream.now s.args.high.now _ m a.ensures.high_after;
+      low_after = added_by _ _ c.args.per c.args.j c.args.n (limbs 0 xs) c.args.stream.now c.args.low.now _ m a.ensures.low_after;
+      middle_after = added_by _ _ c.args.per c.args.j c.args.n (limbs 1 xs) c.args.stream.now c.args.middle.now _ m a.ensures.middle_after;
+      high_after = added_by _ _ c.args.per c.args.j c.args.n (limbs 2 xs) c.args.stream.now c.args.high.now _ m a.ensures.high_after;
     }

@@ -7,37 +7,34 @@ use Rattle.columns128.proofs.add_reduced.Goals as goal
 
 pub add_limb-requires : goal.add_limb-requires
 add_limb-requires c =
-    let s = c in
     record {
-      per_in_bounds = s.requires.per_in_bounds;
-      k_bound = (omega arith, s.requires.row_len);
-      part_len_bound = s.requires.part_len_bound;
-      below = s.requires.below.0;
+      per_in_bounds = c.requires.per_in_bounds;
+      k_bound = (omega arith, c.requires.row_len);
+      part_len_bound = c.requires.part_len_bound;
+      below = c.requires.below.0;
     }
 
 pub add_limb-requires-2 : goal.add_limb-requires-2
 add_limb-requires-2 c =
-    let s = c in
     let a = c.add_limb in
-    let T = s.requires.middle_len.0 in
+    let T = c.requires.middle_len.0 in
     record {
-      per_in_bounds = (same_room _ _ s.args.per _ T s.requires.per_in_bounds.0, s.requires.per_in_bounds.1);
-      k_bound = (omega arith, a.auto.row ∙ s.requires.row_len);
-      part_len_bound = (s.requires.part_len_bound.0, room_less _ _ s.args.n s.args.n _ _ T a.auto.spare (le_refl _) s.requires.part_len_bound.1);
-      below = s.requires.below.1.0;
+      per_in_bounds = (same_room _ _ c.args.per _ T c.requires.per_in_bounds.0, c.requires.per_in_bounds.1);
+      k_bound = (omega arith, a.auto.row ∙ c.requires.row_len);
+      part_len_bound = (c.requires.part_len_bound.0, room_less _ _ c.args.n c.args.n _ _ T a.auto.spare (le_refl _) c.requires.part_len_bound.1);
+      below = c.requires.below.1.0;
     }
 
 pub add_limb-requires-3 : goal.add_limb-requires-3
 add_limb-requires-3 c =
-    let s = c in
     let a = c.add_limb in
     let b = c.add_limb-2 in
-    let T = s.requires.middle_len.1 in
+    let T = c.requires.middle_len.1 in
     record {
-      per_in_bounds = (same_room _ _ s.args.per _ T s.requires.per_in_bounds.0, s.requires.per_in_bounds.1);
-      k_bound = (omega arith, b.auto.row ∙ a.auto.row ∙ s.requires.row_len);
-      part_len_bound = (s.requires.part_len_bound.0, room_less _ _ s.args.n s.args.n _ _ T (b.auto.spare ∙ a.auto.spare) (le_refl _) s.requires.part_len_bound.1);
-      below = s.requires.below.1.1;
+      per_in_bounds = (same_room _ _ c.args.per _ T c.requires.per_in_bounds.0, c.requires.per_in_bounds.1);
+      k_bound = (omega arith, b.auto.row ∙ a.auto.row ∙ c.requires.row_len);
+      part_len_bound = (c.requires.part_len_bound.0, room_less _ _ c.args.n c.args.n _ _ T (b.auto.spare ∙ a.auto.spare) (le_refl _) c.requires.part_len_bound.1);
+      below = c.requires.below.1.1;
     }
 
 pub returns : goal.returns

@@ -29,16 +29,14 @@ slice_bounds-run_limbs-end-then-tests-le-FEW-4 c = sym (zeros_long 2 _ c.if-test
 
 pub run_limbs-requires : goal.run_limbs-requires
 run_limbs-requires c =
-    let i = c in
-    let s = i in
-    let n : ℕ = length s.args.results.now / 2 in
-    let long = zeros_long 2 n i.if-tests-le-FEW.true in
-    let T = long ∙ sym (elements_length s.args.results.now) in
+    let n : ℕ = length c.args.results.now / 2 in
+    let long = zeros_long 2 n c.if-tests-le-FEW.true in
+    let T = long ∙ sym (elements_length c.args.results.now) in
     record {
-      per_in_bounds = (same_room _ _ s.args.per _ T s.requires.per_in_bounds.0, s.requires.per_in_bounds.1);
-      width_nonzero = rw long (few_room n i.if-tests-le-FEW.true);
+      per_in_bounds = (same_room _ _ c.args.per _ T c.requires.per_in_bounds.0, c.requires.per_in_bounds.1);
+      width_nonzero = rw long (few_room n c.if-tests-le-FEW.true);
       same_length = (T, (T, T));
-      whole = (s.requires.whole.0.0, s.requires.whole.1);
+      whole = (c.requires.whole.0.0, c.requires.whole.1);
     }
 
 pub slice_bounds-run_limbs-end-4 : goal.slice_bounds-run_limbs-end-4
@@ -52,14 +50,12 @@ slice_bounds-run_limbs-end-6 c = sym (zeros_long 256 _ (most c.before.before.bef
 
 pub run_limbs-requires-2 : goal.run_limbs-requires-2
 run_limbs-requires-2 c =
-    let i = c in
-    let s = i in
-    let n : ℕ = length s.args.results.now / 2 in
-    let long = zeros_long 256 n (most s.before.before.before.before.before.before.before.before.before.before.before) in
-    let T = long ∙ sym (elements_length s.args.results.now) in
+    let n : ℕ = length c.args.results.now / 2 in
+    let long = zeros_long 256 n (most c.before.before.before.before.before.before.before.before.before.before.before) in
+    let T = long ∙ sym (elements_length c.args.results.now) in
     record {
-      per_in_bounds = (same_room _ _ s.args.per _ T s.requires.per_in_bounds.0, s.requires.per_in_bounds.1);
-      width_nonzero = rw long (many_room n i.if-tests-le-FEW.false);
+      per_in_bounds = (same_room _ _ c.args.per _ T c.requires.per_in_bounds.0, c.requires.per_in_bounds.1);
+      width_nonzero = rw long (many_room n c.if-tests-le-FEW.false);
       same_length = (T, (T, T));
-      whole = (s.requires.whole.0.0, s.requires.whole.1);
+      whole = (c.requires.whole.0.0, c.requires.whole.1);
     }

@@ -41,26 +41,24 @@ small g = (omega (arith, fits g, g.requires.per_in_bounds.1), omega (arith, fits
 
 pub loop-j-init : goal.loop-j-init
 loop-j-init c =
-    let s = c in
     let z = c.zero_row in
     let T = sym z.auto.row in
-    let words = s.args.gradient.now in
+    let words = c.args.gradient.now in
     let xs = elements_of words in (
       omega arith,
       (refl, refl),
       (
-        summed_start _ s.args.per s.args.stream.now (limbs 0 xs) _ s.args.low.now _ T z.ensures,
+        summed_start _ c.args.per c.args.stream.now (limbs 0 xs) _ c.args.low.now _ T z.ensures,
         (
-          summed_start _ s.args.per s.args.stream.now (limbs 1 xs) _ s.args.middle.now _ (s.requires.middle_len.0 ∙ T) c.zero_row-2.ensures,
-          summed_start _ s.args.per s.args.stream.now (limbs 2 xs) _ s.args.high.now _ (s.requires.middle_len.1 ∙ T) c.zero_row-3.ensures,
+          summed_start _ c.args.per c.args.stream.now (limbs 1 xs) _ c.args.middle.now _ (c.requires.middle_len.0 ∙ T) c.zero_row-2.ensures,
+          summed_start _ c.args.per c.args.stream.now (limbs 2 xs) _ c.args.high.now _ (c.requires.middle_len.1 ∙ T) c.zero_row-3.ensures,
         ),
       ),
     )
 
 pub group_from-group-requires : goal.group_from-group-requires
 group_from-group-requires c =
-    let s = c in
-    (c.loop-j-test.true, (omega (arith, s.requires.width_nonzero.0.1, width_most (length s.args.low.now)), s.requires.per_in_bounds.1.1))
+    (c.loop-j-test.true, (omega (arith, c.requires.width_nonzero.0.1, width_most (length c.args.low.now)), c.requires.per_in_bounds.1.1))
 
 pub overflow_mul-first : goal.overflow_mul-first
 overflow_mul-first c = record { fits = omega (arith, small c.before.before) }
@@ -97,27 +95,24 @@ slice_bounds-add_limbs-end-in-loop-j c = room c.before.before.before.before.befo
 
 pub add_limbs-requires : goal.add_limbs-requires
 add_limbs-requires c =
-    let g = c in
-    let l = g in
-    let s = l in
-    let z = l.zero_row in
-    let r = g.group_from-group.result in
-    let words = s.args.gradient.now in
+    let z = c.zero_row in
+    let r = c.group_from-group.result in
+    let words = c.args.gradient.now in
     let xs = elements_of words in
-    let long = part_long r.first r.last words (fits g.before.before.before.before.before.before.before.before.before.before.before).in_order (fits g.before.before.before.before.before.before.before.before.before.before.before).coordinates in
-    let sums = l.loop-j.invariant.2 in
+    let long = part_long r.first r.last words (fits c.before.before.before.before.before.before.before.before.before.before.before).in_order (fits c.before.before.before.before.before.before.before.before.before.before.before).coordinates in
+    let sums = c.loop-j.invariant.2 in
     let T = sums.0.0 ∙ z.auto.row in
-    let fit = fits_by _ _ (r.end - l.loop-j.j) s.args.width _ _ T l.loop-j.invariant.1.1 (fits g.before.before.before.before.before.before.before.before.before.before.before).few s.requires.width_nonzero.0.1 s.requires.width_nonzero.1.1 in
+    let fit = fits_by _ _ (r.end - c.loop-j.j) c.args.width _ _ T c.loop-j.invariant.1.1 (fits c.before.before.before.before.before.before.before.before.before.before.before).few c.requires.width_nonzero.0.1 c.requires.width_nonzero.1.1 in
     let T₀ = length z.new.row in
     let m = ap modulus_for (sym sums.0.0) in
     record {
-      per_in_bounds = (same_room _ _ s.args.per _ T s.requires.per_in_bounds.0, (omega (arith, fits g.before.before.before.before.before.before.before.before.before.before.before), fit.0));
-      row_len = row_long (r.last - r.first) l.loop-j.row (room g.before.before.before.before.before.before.before.before.before.before.before) ∙ sym long;
-      part_len_bound = (rw long (fits g.before.before.before.before.before.before.before.before.before.before.before).few_coordinates, fit.1);
+      per_in_bounds = (same_room _ _ c.args.per _ T c.requires.per_in_bounds.0, (omega (arith, fits c.before.before.before.before.before.before.before.before.before.before.before), fit.0));
+      row_len = row_long (r.last - r.first) c.loop-j.row (room c.before.before.before.before.before.before.before.before.before.before.before) ∙ sym long;
+      part_len_bound = (rw long (fits c.before.before.before.before.before.before.before.before.before.before.before).few_coordinates, fit.1);
       middle_len = (sums.1.0.0 ∙ sym sums.0.0, sums.1.1.0 ∙ sym sums.0.0);
       below = (
-        below_by _ _ l.loop-j.low m (summed_below _ s.args.per s.args.stream.now (limbs 0 xs) (positive T₀) _ l.loop-j.j l.loop-j.low sums.0),
-        (below_by _ _ l.loop-j.middle m (summed_below _ s.args.per s.args.stream.now (limbs 1 xs) (positive T₀) _ l.loop-j.j l.loop-j.middle sums.1.0), below_by _ _ l.loop-j.high m (summed_below _ s.args.per s.args.stream.now (limbs 2 xs) (positive T₀) _ l.loop-j.j l.loop-j.high sums.1.1)),
+        below_by _ _ c.loop-j.low m (summed_below _ c.args.per c.args.stream.now (limbs 0 xs) (positive T₀) _ c.loop-j.j c.loop-j.low sums.0),
+        (below_by _ _ c.loop-j.middle m (summed_below _ c.args.per c.args.stream.now (limbs 1 xs) (positive T₀) _ c.loop-j.j c.loop-j.middle sums.1.0), below_by _ _ c.loop-j.high m (summed_below _ c.args.per c.args.stream.now (limbs 2 xs) (positive T₀) _ c.loop-j.j c.loop-j.high sums.1.1)),
       );
     }
 
@@ -126,24 +121,21 @@ loop-j-smaller c = omega (arith, fits c.before.before.before.before.before.befor
 
 pub loop-j-preserved : goal.loop-j-preserved
 loop-j-preserved c =
-    let g = c in
-    let l = g in
-    let s = l in
     let a = c.add_limbs in
-    let r = g.group_from-group.result in
-    let words = s.args.gradient.now in
+    let r = c.group_from-group.result in
+    let words = c.args.gradient.now in
     let xs = elements_of words in
-    let sums = l.loop-j.invariant.2 in
-    let on = g.loop-j-test.true in
-    let T₀ = length l.zero_row.new.row in
+    let sums = c.loop-j.invariant.2 in
+    let on = c.loop-j-test.true in
+    let T₀ = length c.zero_row.new.row in
     let m = ap modulus_for sums.0.0 in (
-      (fits g.before.before.before.before.before.before.before.before.before.before.before.before.before.before.before.before.before.before.before.before.before.before).inside,
-      (length_front l.loop-j.row a.new.row (r.last - r.first - 0) a.auto.row ∙ l.loop-j.invariant.1.0, a.auto.spare ∙ l.loop-j.invariant.1.1),
+      (fits c.before.before.before.before.before.before.before.before.before.before.before.before.before.before.before.before.before.before.before.before.before.before).inside,
+      (length_front c.loop-j.row a.new.row (r.last - r.first - 0) a.auto.row ∙ c.loop-j.invariant.1.0, a.auto.spare ∙ c.loop-j.invariant.1.1),
       (
-        summed_next _ s.args.per s.args.stream.now (limbs 0 xs) (positive T₀) _ l.loop-j.j r.end _ l.loop-j.low _ (fits g.before.before.before.before.before.before.before.before.before.before.before.before.before.before.before.before.before.before.before.before.before.before).goes_on (fits g.before.before.before.before.before.before.before.before.before.before.before.before.before.before.before.before.before.before.before.before.before.before).inside (part_limbs 0 l.loop-j.j s.args.width s.args.per words r on (taken g.before.before.before.before.before.before.before.before.before.before.before.before.before.before.before.before.before.before.before.before.before.before)) a.auto.low (added_by _ _ s.args.per l.loop-j.j (r.end - l.loop-j.j) _ s.args.stream.now l.loop-j.low _ m a.ensures.low_after) sums.0,
+        summed_next _ c.args.per c.args.stream.now (limbs 0 xs) (positive T₀) _ c.loop-j.j r.end _ c.loop-j.low _ (fits c.before.before.before.before.before.before.before.before.before.before.before.before.before.before.before.before.before.before.before.before.before.before).goes_on (fits c.before.before.before.before.before.before.before.before.before.before.before.before.before.before.before.before.before.before.before.before.before.before).inside (part_limbs 0 c.loop-j.j c.args.width c.args.per words r on (taken c.before.before.before.before.before.before.before.before.before.before.before.before.before.before.before.before.before.before.before.before.before.before)) a.auto.low (added_by _ _ c.args.per c.loop-j.j (r.end - c.loop-j.j) _ c.args.stream.now c.loop-j.low _ m a.ensures.low_after) sums.0,
         (
-          summed_next _ s.args.per s.args.stream.now (limbs 1 xs) (positive T₀) _ l.loop-j.j r.end _ l.loop-j.middle _ (fits g.before.before.before.before.before.before.before.before.before.before.before.before.before.before.before.before.before.before.before.before.before.before).goes_on (fits g.before.before.before.before.before.before.before.before.before.before.before.before.before.before.before.before.before.before.before.before.before.before).inside (part_limbs 1 l.loop-j.j s.args.width s.args.per words r on (taken g.before.before.before.before.before.before.before.before.before.before.before.before.before.before.before.before.before.before.before.before.before.before)) a.auto.middle (added_by _ _ s.args.per l.loop-j.j (r.end - l.loop-j.j) _ s.args.stream.now l.loop-j.middle _ m a.ensures.middle_after) sums.1.0,
-          summed_next _ s.args.per s.args.stream.now (limbs 2 xs) (positive T₀) _ l.loop-j.j r.end _ l.loop-j.high _ (fits g.before.before.before.before.before.before.before.before.before.before.before.before.before.before.before.before.before.before.before.before.before.before).goes_on (fits g.before.before.before.before.before.before.before.before.before.before.before.before.before.before.before.before.before.before.before.before.before.before).inside (part_limbs 2 l.loop-j.j s.args.width s.args.per words r on (taken g.before.before.before.before.before.before.before.before.before.before.before.before.before.before.before.before.before.before.before.before.before.before)) a.auto.high (added_by _ _ s.args.per l.loop-j.j (r.end - l.loop-j.j) _ s.args.stream.now l.loop-j.high _ m a.ensures.high_after) sums.1.1,
+          summed_next _ c.args.per c.args.stream.now (limbs 1 xs) (positive T₀) _ c.loop-j.j r.end _ c.loop-j.middle _ (fits c.before.before.before.before.before.before.before.before.before.before.before.before.before.before.before.before.before.before.before.before.before.before).goes_on (fits c.before.before.before.before.before.before.before.before.before.before.before.before.before.before.before.before.before.before.before.before.before.before).inside (part_limbs 1 c.loop-j.j c.args.width c.args.per words r on (taken c.before.before.before.before.before.before.before.before.before.before.before.before.before.before.before.before.before.before.before.before.before.before)) a.auto.middle (added_by _ _ c.args.per c.loop-j.j (r.end - c.loop-j.j) _ c.args.stream.now c.loop-j.middle _ m a.ensures.middle_after) sums.1.0,
+          summed_next _ c.args.per c.args.stream.now (limbs 2 xs) (positive T₀) _ c.loop-j.j r.end _ c.loop-j.high _ (fits c.before.before.before.before.before.before.before.before.before.before.before.before.before.before.before.before.before.before.before.before.before.before).goes_on (fits c.before.before.before.before.before.before.before.before.before.before.before.before.before.before.before.before.before.before.before.before.before.before).inside (part_limbs 2 c.loop-j.j c.args.width c.args.per words r on (taken c.before.before.before.before.before.before.before.before.before.before.before.before.before.before.before.before.before.before.before.before.before.before)) a.auto.high (added_by _ _ c.args.per c.loop-j.j (r.end - c.loop-j.j) _ c.args.stream.now c.loop-j.high _ m a.ensures.high_after) sums.1.1,
         ),
       ),
     )
@@ -165,17 +157,15 @@ shape_of-high c = c.loop-j.invariant.2.1.1.0 ∙ c.zero_row.auto.row ∙ sym c.r
 
 pub returns : goal.returns
 returns c =
-    let l = c in
-    let s = l in
-    let n = l.zero_row.auto.row in
-    let words = s.args.gradient.now in
+    let n = c.zero_row.auto.row in
+    let words = c.args.gradient.now in
     let xs = elements_of words in
-    let sums = l.loop-j.invariant.2 in
+    let sums = c.loop-j.invariant.2 in
     let out = c.loop-j-test.false in
     let m = ap modulus_for n in
-    let few : (k : ℕ) → length (limbs k xs) ≤ 4 * s.args.per = λ k. rw (length_limbs k xs) s.requires.per_in_bounds.1.0 in
+    let few : (k : ℕ) → length (limbs k xs) ≤ 4 * c.args.per = λ k. rw (length_limbs k xs) c.requires.per_in_bounds.1.0 in
     record {
-      low_after = tests_by _ _ s.args.per _ s.args.stream.now (limbs 0 xs) _ m (summed_end _ s.args.per s.args.stream.now (limbs 0 xs) _ _ l.loop-j.j l.loop-j.low n out (few 0) sums.0);
-      middle_after = tests_by _ _ s.args.per _ s.args.stream.now (limbs 1 xs) _ m (summed_end _ s.args.per s.args.stream.now (limbs 1 xs) _ _ l.loop-j.j l.loop-j.middle n out (few 1) sums.1.0);
-      high_after = tests_by _ _ s.args.per _ s.args.stream.now (limbs 2 xs) _ m (summed_end _ s.args.per s.args.stream.now (limbs 2 xs) _ _ l.loop-j.j l.loop-j.high n out (few 2) sums.1.1);
+      low_after = tests_by _ _ c.args.per _ c.args.stream.now (limbs 0 xs) _ m (summed_end _ c.args.per c.args.stream.now (limbs 0 xs) _ _ c.loop-j.j c.loop-j.low n out (few 0) sums.0);
+      middle_after = tests_by _ _ c.args.per _ c.args.stream.now (limbs 1 xs) _ m (summed_end _ c.args.per c.args.stream.now (limbs 1 xs) _ _ c.loop-j.j c.loop-j.middle n out (few 1) sums.1.0);
+      high_after = tests_by _ _ c.args.per _ c.args.stream.now (limbs 2 xs) _ m (summed_end _ c.args.per c.args.stream.now (limbs 2 xs) _ _ c.loop-j.j c.loop-j.high n out (few 2) sums.1.1);
     }

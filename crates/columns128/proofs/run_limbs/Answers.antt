@@ -11,23 +11,21 @@ use Rattle.columns128.proofs.run_limbs.Goals as goal
 
 pub join_rows-requires : goal.join_rows-requires
 join_rows-requires c =
-    let s = c in
     let r = c.run_groups in
-    let same = s.requires.same_length in
-    let T = length s.args.low.now in
-    let xs = elements_of s.args.gradient.now in
+    let same = c.requires.same_length in
+    let T = length c.args.low.now in
+    let xs = elements_of c.args.gradient.now in
     let m = ap modulus_for (sym r.auto.low) in
     record {
-      whole = (s.requires.whole.0, (r.auto.low ∙ same.0, (r.auto.middle ∙ same.1.0, r.auto.high ∙ same.1.1)));
+      whole = (c.requires.whole.0, (r.auto.low ∙ same.0, (r.auto.middle ∙ same.1.0, r.auto.high ∙ same.1.1)));
       below = (
-        below_by _ _ r.new.low m (results_below _ (positive T) s.args.per T s.args.stream.now (limbs 0 xs) r.new.low r.ensures.low_after),
-        (below_by _ _ r.new.middle m (results_below _ (positive T) s.args.per T s.args.stream.now (limbs 1 xs) r.new.middle r.ensures.middle_after), below_by _ _ r.new.high m (results_below _ (positive T) s.args.per T s.args.stream.now (limbs 2 xs) r.new.high r.ensures.high_after)),
+        below_by _ _ r.new.low m (results_below _ (positive T) c.args.per T c.args.stream.now (limbs 0 xs) r.new.low r.ensures.low_after),
+        (below_by _ _ r.new.middle m (results_below _ (positive T) c.args.per T c.args.stream.now (limbs 1 xs) r.new.middle r.ensures.middle_after), below_by _ _ r.new.high m (results_below _ (positive T) c.args.per T c.args.stream.now (limbs 2 xs) r.new.high r.ensures.high_after)),
       );
     }
 
 pub returns : goal.returns
 returns c =
-    let s = c in
     let r = c.run_groups in
     let j = c.join_rows in
-    j.ensures ∙ ap words_of (limbs_joined _ _ (ap modulus_for r.auto.low) (enough (leb (length s.args.low.now) 2)) s.args.per _ _ s.args.stream.now (elements_of s.args.gradient.now) _ _ _ s.requires.same_length.0 s.requires.whole.1 s.requires.per_in_bounds.1.0 s.requires.per_in_bounds.1.1 r.ensures.low_after r.ensures.middle_after r.ensures.high_after)
+    j.ensures ∙ ap words_of (limbs_joined _ _ (ap modulus_for r.auto.low) (enough (leb (length c.args.low.now) 2)) c.args.per _ _ c.args.stream.now (elements_of c.args.gradient.now) _ _ _ c.requires.same_length.0 c.requires.whole.1 c.requires.per_in_bounds.1.0 c.requires.per_in_bounds.1.1 r.ensures.low_after r.ensures.middle_after r.ensures.high_after)

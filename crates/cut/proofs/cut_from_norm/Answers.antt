@@ -41,8 +41,7 @@ norm_of c = c.squared_norm-norm.ensures ∙ ap (λ (f : ℕ). true_sq_norm_of f 
 -- the norm is within its bounds
 met : (c : After-wr_seed-made) → MetUpTo 10 Field64 c.args.param c.args.gradient.now c.args.nonce.now c.args.seeds.now c.args.leader.now c.args.helper.now c.args.given.now
 met c =
-    let s = c in
-    norm_met Field64 s.args.param s.args.gradient.now s.args.nonce.now s.args.seeds.now s.args.leader.now s.args.helper.now s.args.given.now s.requires.met_up_to (lit< tt) s.args.pine s.requires.pine_value (words_of c.squared_norm-norm.result) c.reduced-v.result (norm_of c.before.before.before.before.before) c.reduced-v.ensures c.check_norm-of_norm.result c.check_norm-of_norm.ensures c.if-of_norm-ne0.false
+    norm_met Field64 c.args.param c.args.gradient.now c.args.nonce.now c.args.seeds.now c.args.leader.now c.args.helper.now c.args.given.now c.requires.met_up_to (lit< tt) c.args.pine c.requires.pine_value (words_of c.squared_norm-norm.result) c.reduced-v.result (norm_of c.before.before.before.before.before) c.reduced-v.ensures c.check_norm-of_norm.result c.check_norm-of_norm.ensures c.if-of_norm-ne0.false
 
 pub squared_norm-norm-requires : goal.squared_norm-norm-requires
 squared_norm-norm-requires c =
@@ -56,26 +55,23 @@ returns-then-of_norm-ne0 c = norm_refused Field64 c.args.param c.args.gradient.n
 
 pub wr_seed-made-requires : goal.wr_seed-made-requires
 wr_seed-made-requires c =
-    let s = c in
-    let r = ready_of s.before.before.before.before.before.before.before.before.before.before.before.before in
+    let r = ready_of c.before.before.before.before.before.before.before.before.before.before.before.before in
     record {
-      pine_value = (s.requires.pine_value, r.inputs);
-      usable = (r.usable, norm_is Field64 s.args.param s.args.gradient.now s.args.nonce.now s.args.seeds.now s.args.leader.now s.args.helper.now s.args.given.now s.requires.met_up_to (lit< tt) s.args.pine s.requires.pine_value (words_of c.squared_norm-norm.result) c.reduced-v.result (norm_of c.before.before.before.before.before) c.reduced-v.ensures c.check_norm-of_norm.result c.check_norm-of_norm.ensures);
+      pine_value = (c.requires.pine_value, r.inputs);
+      usable = (r.usable, norm_is Field64 c.args.param c.args.gradient.now c.args.nonce.now c.args.seeds.now c.args.leader.now c.args.helper.now c.args.given.now c.requires.met_up_to (lit< tt) c.args.pine c.requires.pine_value (words_of c.squared_norm-norm.result) c.reduced-v.result (norm_of c.before.before.before.before.before) c.reduced-v.ensures c.check_norm-of_norm.result c.check_norm-of_norm.ensures);
       gradient_len = (r.gradient_long, r.seeds_long);
     }
 
 pub returns-then-not-made : goal.returns-then-not-made
 returns-then-not-made c =
-    let s = c in
     let w = c.wr_seed-made in
-    draws_refused Field64 s.args.param s.args.gradient.now s.args.nonce.now s.args.seeds.now s.args.leader.now s.args.helper.now s.args.given.now (met c.before.before.before) w.result.enough w.ensures.enough_value (not-true w.result.enough c.if-not-made.true)
+    draws_refused Field64 c.args.param c.args.gradient.now c.args.nonce.now c.args.seeds.now c.args.leader.now c.args.helper.now c.args.given.now (met c.before.before.before) w.result.enough w.ensures.enough_value (not-true w.result.enough c.if-not-made.true)
 
 pub cut_from_tests-requires : goal.cut_from_tests-requires
 cut_from_tests-requires c =
-    let s = c in
     let w = c.wr_seed-made in
     let enough = not-false w.result.enough c.if-not-made.false in
     record {
-      met_up_to = draws_met Field64 s.args.param s.args.gradient.now s.args.nonce.now s.args.seeds.now s.args.leader.now s.args.helper.now s.args.given.now (met c.before.before.before.before.before.before.before) w.result.enough w.ensures.enough_value enough;
-      wr_value = w.ensures.seed_value (draws_accepted Field64 s.args.param s.args.gradient.now s.args.nonce.now s.args.seeds.now s.args.leader.now s.args.helper.now s.args.given.now (met c.before.before.before.before.before.before.before) w.result.enough w.ensures.enough_value enough);
+      met_up_to = draws_met Field64 c.args.param c.args.gradient.now c.args.nonce.now c.args.seeds.now c.args.leader.now c.args.helper.now c.args.given.now (met c.before.before.before.before.before.before.before) w.result.enough w.ensures.enough_value enough;
+      wr_value = w.ensures.seed_value (draws_accepted Field64 c.args.param c.args.gradient.now c.args.nonce.now c.args.seeds.now c.args.leader.now c.args.helper.now c.args.given.now (met c.before.before.before.before.before.before.before) w.result.enough w.ensures.enough_value enough);
     }

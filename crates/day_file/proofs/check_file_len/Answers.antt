@@ -12,10 +12,8 @@ short len d n h e = omega arith
 
 pub returns-then-len-lt6 : goal.returns-then-len-lt6
 returns-then-len-lt6 c =
-    let s = c in
-    simp (ne_eqb s.args.len (file_len s.args.dimension s.args.count) (short s.args.len s.args.dimension s.args.count c.if-len-lt6.true))
+    simp (ne_eqb c.args.len (file_len c.args.dimension c.args.count) (short c.args.len c.args.dimension c.args.count c.if-len-lt6.true))
 
 pub returns : goal.returns
 returns c =
-    let s = c in
-    c.check_units.ensures ∙ past_six 3 s.args.len (12 + 8 * s.args.dimension) s.args.count c.if-len-lt6.false
+    c.check_units.ensures ∙ past_six 3 c.args.len (12 + 8 * c.args.dimension) c.args.count c.if-len-lt6.false

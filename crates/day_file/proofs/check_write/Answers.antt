@@ -9,23 +9,19 @@ use Rattle.day_file.proofs.check_write.Goals as goal
 
 pub returns-then-inputs-ne0 : goal.returns-then-inputs-ne0
 returns-then-inputs-ne0 c =
-    let s = c in
-    write_inputs s.args.param s.args.count s.args.contents.now s.args.bodies.now s.args.file _ c.check_param-inputs.ensures c.if-inputs-ne0.true
+    write_inputs c.args.param c.args.count c.args.contents.now c.args.bodies.now c.args.file _ c.check_param-inputs.ensures c.if-inputs-ne0.true
 
 pub check_write_lens-lens-requires : goal.check_write_lens-lens-requires
 check_write_lens-lens-requires c = dimension_limits c.args.param _ c.check_param-inputs.ensures c.if-inputs-ne0.false
 
 pub returns-then-lens-ne0 : goal.returns-then-lens-ne0
 returns-then-lens-ne0 c =
-    let s = c in
-    write_lens s.args.param s.args.count s.args.contents.now s.args.bodies.now s.args.file _ c.check_param-inputs.ensures c.if-inputs-ne0.false _ _ _ _ refl refl refl c.check_write_lens-lens.ensures c.if-lens-ne0.true
+    write_lens c.args.param c.args.count c.args.contents.now c.args.bodies.now c.args.file _ c.check_param-inputs.ensures c.if-inputs-ne0.false _ _ _ _ refl refl refl c.check_write_lens-lens.ensures c.if-lens-ne0.true
 
 pub check_rows-requires : goal.check_rows-requires
 check_rows-requires c =
-    let s = c in
-    row_right 1 (length s.args.contents.now) (12 * s.args.count) (both _ _ (ap number (sym c.check_write_lens-lens.ensures) ∙ c.if-lens-ne0.false)).0
+    row_right 1 (length c.args.contents.now) (12 * c.args.count) (both _ _ (ap number (sym c.check_write_lens-lens.ensures) ∙ c.if-lens-ne0.false)).0
 
 pub returns : goal.returns
 returns c =
-    let s = c in
-    write_rows s.args.param s.args.count s.args.contents.now s.args.bodies.now s.args.file _ c.check_param-inputs.ensures c.if-inputs-ne0.false _ _ _ _ refl refl refl c.check_write_lens-lens.ensures c.if-lens-ne0.false _ c.check_rows.ensures
+    write_rows c.args.param c.args.count c.args.contents.now c.args.bodies.now c.args.file _ c.check_param-inputs.ensures c.if-inputs-ne0.false _ _ _ _ refl refl refl c.check_write_lens-lens.ensures c.if-lens-ne0.false _ c.check_rows.ensures

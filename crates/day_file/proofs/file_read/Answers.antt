@@ -13,13 +13,11 @@ Else-answer-ne0 = lts.Else1 tie.the-claims reads.Pre reads.Post
 
 fits : (c : Else-answer-ne0) → 6 + length c.args.contents.now ≤ length c.args.file.now
 fits c =
-    let s = c in
-    read_fits s.args.param s.args.file.now s.args.contents.now s.args.bodies.now _ c.check_read-answer.ensures c.if-answer-ne0.false
+    read_fits c.args.param c.args.file.now c.args.contents.now c.args.bodies.now _ c.check_read-answer.ensures c.if-answer-ne0.false
 
 pub returns-then-answer-ne0 : goal.returns-then-answer-ne0
 returns-then-answer-ne0 c =
-    let s = c in
-    read_refused s.args.param s.args.file.now s.args.contents.now s.args.bodies.now _ c.check_read-answer.ensures c.if-answer-ne0.true
+    read_refused c.args.param c.args.file.now c.args.contents.now c.args.bodies.now _ c.check_read-answer.ensures c.if-answer-ne0.true
 
 pub slice_bounds-copy_bytes-end : goal.slice_bounds-copy_bytes-end
 slice_bounds-copy_bytes-end c = omega (arith, fits c.before)
@@ -32,12 +30,8 @@ slice_bounds-read_elements-start c = omega (arith, fits c.before.before.before.b
 
 pub read_elements-requires : goal.read_elements-requires
 read_elements-requires c =
-    let k = c in
-    let s = k in
-    read_rest s.args.param s.args.file.now s.args.contents.now s.args.bodies.now _ k.check_read-answer.ensures k.if-answer-ne0.false
+    read_rest c.args.param c.args.file.now c.args.contents.now c.args.bodies.now _ c.check_read-answer.ensures c.if-answer-ne0.false
 
 pub returns : goal.returns
 returns c =
-    let k = c in
-    let s = k in
-    read_done s.args.param s.args.file.now s.args.contents.now s.args.bodies.now _ k.check_read-answer.ensures k.if-answer-ne0.false _ _ c.copy_bytes.ensures c.read_elements.ensures
+    read_done c.args.param c.args.file.now c.args.contents.now c.args.bodies.now _ c.check_read-answer.ensures c.if-answer-ne0.false _ _ c.copy_bytes.ensures c.read_elements.ensures

@@ -5,16 +5,13 @@ use Rattle.day_file.proofs.is_rows.Goals as goal
 
 pub returns-then-count-gt1024 : goal.returns-then-count-gt1024
 returns-then-count-gt1024 c =
-    let s = c in
-    rows_many p64 s.args.count s.args.contents.now s.args.bodies.now c.if-count-gt1024.true
+    rows_many p64 c.args.count c.args.contents.now c.args.bodies.now c.if-count-gt1024.true
 
 pub returns-then-rise : goal.returns-then-rise
 returns-then-rise c =
-    let s = c in
     let e = c.carries.ensures in
-    rows_rise p64 s.args.count s.args.contents.now s.args.bodies.now c.if-count-gt1024.false _ c.keys_rise-rise.ensures c.if-rise.true _ (none_carries _ s.args.bodies.now e.below e.upper_bound)
+    rows_rise p64 c.args.count c.args.contents.now c.args.bodies.now c.if-count-gt1024.false _ c.keys_rise-rise.ensures c.if-rise.true _ (none_carries _ c.args.bodies.now e.below e.upper_bound)
 
 pub returns : goal.returns
 returns c =
-    let s = c in
-    rows_fall p64 s.args.count s.args.contents.now s.args.bodies.now c.if-count-gt1024.false _ c.keys_rise-rise.ensures c.if-rise.false
+    rows_fall p64 c.args.count c.args.contents.now c.args.bodies.now c.if-count-gt1024.false _ c.keys_rise-rise.ensures c.if-rise.false

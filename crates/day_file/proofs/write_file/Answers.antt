@@ -8,7 +8,6 @@ use Rattle.day_file.proofs.write_file.Goals as goal
 
 pub returns : goal.returns
 returns c =
-    let s = c in
     let h = c.put_header-start.ensures in
     let b = c.put_bytes-at.ensures in
-    file_written s.args.dimension s.args.count s.args.contents.now s.args.bodies.now s.args.file.now _ _ _ _ s.requires h.0 (b.0 ∙ ap (λ (n : ℕ). pasted n s.args.contents.now c.put_header-start.new.row) h.1) (b.1 ∙ ap (λ (n : ℕ). n + length s.args.contents.now) h.1) c.put_elements.ensures.0
+    file_written c.args.dimension c.args.count c.args.contents.now c.args.bodies.now c.args.file.now _ _ _ _ c.requires h.0 (b.0 ∙ ap (λ (n : ℕ). pasted n c.args.contents.now c.put_header-start.new.row) h.1) (b.1 ∙ ap (λ (n : ℕ). n + length c.args.contents.now) h.1) c.put_elements.ensures.0

@@ -16,8 +16,4 @@ float_from_bits-low c = low_number c.wrapping_add_u64-raised.result
 pub returns : goal.returns
 unfolding of_bits
 returns c =
-    let w = c in
-    let g = w in
-    let d = g in
-    let s = d in
-    nearest_centred s.args.y d.wrapping_sub_u64.result g.gap_of.result w.wrapping_add_u64-word.result c.wrapping_add_u64-raised.result s.requires (search rules) d.wrapping_sub_u64.ensures.value g.gap_of.ensures w.wrapping_add_u64-word.ensures.value (search rules) c.wrapping_add_u64-raised.ensures.value
+    nearest_centred c.args.y c.wrapping_sub_u64.result c.gap_of.result c.wrapping_add_u64-word.result c.wrapping_add_u64-raised.result c.requires (search rules) c.wrapping_sub_u64.ensures.value c.gap_of.ensures c.wrapping_add_u64-word.ensures.value (search rules) c.wrapping_add_u64-raised.ensures.value

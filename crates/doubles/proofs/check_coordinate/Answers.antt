@@ -19,20 +19,14 @@ held c = subst T (sym c.well_formed.0.1) tt
 
 pub returns-then-not-usable : goal.returns-then-not-usable
 returns-then-not-usable c =
-    let s = c in
-    answer_8 floor_limit64 s.args.x s.args.frac_bits (not-false _ (sym c.usable.ensures ∙ c.if-not-usable.true))
+    answer_8 floor_limit64 c.args.x c.args.frac_bits (not-false _ (sym c.usable.ensures ∙ c.if-not-usable.true))
 
 pub returns-then-not-within_limit : goal.returns-then-not-within_limit
 returns-then-not-within_limit c =
-    let u = c in
-    let s = u in
-    let h = usable_is s.args.x _ u.usable.ensures (ap not u.if-not-usable.false) in
-    answer_17 floor_limit64 s.args.x s.args.frac_bits h (sym (limit_is floor_limit64 (lit< tt) s.args.x s.args.scale s.args.frac_bits (held s.before.before.before.before) s.requires h _ c.within_limit.ensures) ∙ ap not c.if-not-within_limit.true)
+    let h = usable_is c.args.x _ c.usable.ensures (ap not c.if-not-usable.false) in
+    answer_17 floor_limit64 c.args.x c.args.frac_bits h (sym (limit_is floor_limit64 (lit< tt) c.args.x c.args.scale c.args.frac_bits (held c.before.before.before.before) c.requires h _ c.within_limit.ensures) ∙ ap not c.if-not-within_limit.true)
 
 pub returns : goal.returns
 returns c =
-    let w = c in
-    let u = w in
-    let s = u in
-    let h = usable_is s.args.x _ u.usable.ensures (ap not u.if-not-usable.false) in
-    c.accepted.ensures ∙ answer_none floor_limit64 s.args.x s.args.frac_bits h (sym (limit_is floor_limit64 (lit< tt) s.args.x s.args.scale s.args.frac_bits (held s.before.before.before.before.before) s.requires h _ w.within_limit.ensures) ∙ ap not c.if-not-within_limit.false)
+    let h = usable_is c.args.x _ c.usable.ensures (ap not c.if-not-usable.false) in
+    c.accepted.ensures ∙ answer_none floor_limit64 c.args.x c.args.frac_bits h (sym (limit_is floor_limit64 (lit< tt) c.args.x c.args.scale c.args.frac_bits (held c.before.before.before.before.before) c.requires h _ c.within_limit.ensures) ∙ ap not c.if-not-within_limit.false)

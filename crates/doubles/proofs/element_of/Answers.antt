@@ -24,6 +24,5 @@ floor_to_field-requires c =
 
 pub returns : goal.returns
 returns c =
-    let s = c in
-    c.floor_to_field.ensures ∙ ap (λ (z : Float). floor_mod p64 (mul binary64 s.args.x z)) s.requires.fact_2
-    ∙ product_is_element p64 floor_limit64 (lit< tt) s.args.x s.args.frac_bits (held s.before) (taken floor_limit64 s.args.x s.args.frac_bits s.requires.fact_1)
+    c.floor_to_field.ensures ∙ ap (λ (z : Float). floor_mod p64 (mul binary64 c.args.x z)) c.requires.fact_2
+    ∙ product_is_element p64 floor_limit64 (lit< tt) c.args.x c.args.frac_bits (held c.before) (taken floor_limit64 c.args.x c.args.frac_bits c.requires.fact_1)

@@ -8,9 +8,7 @@ use Rattle.doubles.proofs.encode.Goals as goal
 
 pub returns-then-answer-ne0 : goal.returns-then-answer-ne0
 returns-then-answer-ne0 c =
-    let k = c in
-    let s = k in
-    encoded_refused floor_limit64 s.args.x s.args.frac_bits p64 k.check_coordinate-answer.result k.check_coordinate-answer.ensures c.if-answer-ne0.true
+    encoded_refused floor_limit64 c.args.x c.args.frac_bits p64 c.check_coordinate-answer.result c.check_coordinate-answer.ensures c.if-answer-ne0.true
 
 pub element_of-requires : goal.element_of-requires
 element_of-requires c =
@@ -21,6 +19,4 @@ element_of-requires c =
 
 pub returns : goal.returns
 returns c =
-    let b = c in
-    let s = b in
-    encoded_accepted floor_limit64 s.args.x s.args.frac_bits p64 b.check_coordinate-answer.result b.check_coordinate-answer.ensures c.element_of.result c.if-answer-ne0.false c.element_of.ensures
+    encoded_accepted floor_limit64 c.args.x c.args.frac_bits p64 c.check_coordinate-answer.result c.check_coordinate-answer.ensures c.element_of.result c.if-answer-ne0.false c.element_of.ensures

@@ -11,5 +11,4 @@ returns-then-frac_bits-gt-MAX_FRAC_BITS c = simp (lt-ltb _ _ c.if-frac_bits-gt-M
 
 pub returns : goal.returns
 returns c =
-    let s = c in
-    c.encode.ensures ∙ small_frac_bits p64 floor_limit64 s.args.x s.args.frac_bits c.if-frac_bits-gt-MAX_FRAC_BITS.false
+    c.encode.ensures ∙ small_frac_bits p64 floor_limit64 c.args.x c.args.frac_bits c.if-frac_bits-gt-MAX_FRAC_BITS.false

@@ -26,6 +26,4 @@ float_to_bits-y c = (at_start c.before).number
 pub returns : goal.returns
 unfolding of_bits
 returns c =
-    let l = c in
-    let s = l in
-    c.wrapping_add_u64.ensures.value ∙ ap (λ (n : ℕ). (to_bits binary64 (raised 32 s.args.w) * 2 ^ 32 % 2 ^ 64 + n) % 2 ^ 64) l.near_floor-low.ensures ∙ sym (at_start s.before.before).is
+    c.wrapping_add_u64.ensures.value ∙ ap (λ (n : ℕ). (to_bits binary64 (raised 32 c.args.w) * 2 ^ 32 % 2 ^ 64 + n) % 2 ^ 64) c.near_floor-low.ensures ∙ sym (at_start c.before.before).is

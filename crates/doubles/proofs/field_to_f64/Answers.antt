@@ -18,5 +18,4 @@ returns-then-y-ge-P c = simp (le-ltb _ _ c.if-frac_bits-gt-MAX_FRAC_BITS.false, 
 pub returns : goal.returns
 unfolding decoded_of
 returns c =
-    let b = c in
-    simp (c.accepted.ensures, c.decode.ensures, le-ltb _ _ b.if-frac_bits-gt-MAX_FRAC_BITS.false, lt-leb _ _ b.if-y-ge-P.false, size_met p64 size_limit64 _ (lit≤ tt) b.if-y-ge-P.false)
+    simp (c.accepted.ensures, c.decode.ensures, le-ltb _ _ c.if-frac_bits-gt-MAX_FRAC_BITS.false, lt-leb _ _ c.if-y-ge-P.false, size_met p64 size_limit64 _ (lit≤ tt) c.if-y-ge-P.false)

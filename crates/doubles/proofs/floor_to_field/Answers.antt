@@ -9,7 +9,4 @@ taken r x f g e h k = ap (λ (n : ℕ). (r + n) % 2 ^ 64) (ap (λ (n : ℕ). n /
 
 pub returns : goal.returns
 returns c =
-    let g = c in
-    let w = g in
-    let s = w in
-    field_word s.args.w s.requires c.wrapping_sub_u64.result (search rules) (taken c.wrapping_sub_u64.result w.floor_word-word.result _ g.gap_of.result w.floor_word-word.ensures g.gap_of.ensures c.wrapping_sub_u64.ensures.value)
+    field_word c.args.w c.requires c.wrapping_sub_u64.result (search rules) (taken c.wrapping_sub_u64.result c.floor_word-word.result _ c.gap_of.result c.floor_word-word.ensures c.gap_of.ensures c.wrapping_sub_u64.ensures.value)

@@ -35,5 +35,4 @@ floor_is c =
 
 pub returns : goal.returns
 returns c =
-    let s = c in
-    word_is c.wrapping_sub_u64.result _ (at_start s.before.before).floor (search rules) (floor_lt _ s.args.w (lit< tt)) (c.wrapping_sub_u64.ensures.value ∙ floor_is c.before) (at_start s.before.before).is
+    word_is c.wrapping_sub_u64.result _ (at_start c.before.before).floor (search rules) (floor_lt _ c.args.w (lit< tt)) (c.wrapping_sub_u64.ensures.value ∙ floor_is c.before) (at_start c.before.before).is

@@ -16,5 +16,4 @@ returns-then-size c =
 pub returns-else-size : goal.returns-else-size
 unfolding of_bits
 returns-else-size c =
-    let k = c in
-    (lit≤ tt, λ z. large_not_small _ (ap (λ (y : Float). lt y (fin false 1 (negsuc 1021))) (sym k.size.ensures) ∙ c.if-size.false))
+    (lit≤ tt, λ z. large_not_small _ (ap (λ (y : Float). lt y (fin false 1 (negsuc 1021))) (sym c.size.ensures) ∙ c.if-size.false))

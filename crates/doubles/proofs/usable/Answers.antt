@@ -7,11 +7,9 @@ use Rattle.doubles.proofs.usable.Goals as goal
 
 pub returns-then-normal_size : goal.returns-then-normal_size
 returns-then-normal_size c =
-    let s = c in
-    usable_normal s.args.x (ap normal_size (sym s.size.ensures) ∙ sym c.normal_size.ensures ∙ c.if-normal_size.true)
+    usable_normal c.args.x (ap normal_size (sym c.size.ensures) ∙ sym c.normal_size.ensures ∙ c.if-normal_size.true)
 
 pub returns : goal.returns
 unfolding of_bits
 returns c =
-    let s = c in
-    usable_other s.args.x (ap normal_size (sym s.size.ensures) ∙ sym c.normal_size.ensures ∙ c.if-normal_size.false)
+    usable_other c.args.x (ap normal_size (sym c.size.ensures) ∙ sym c.normal_size.ensures ∙ c.if-normal_size.false)

@@ -45,7 +45,5 @@ float_from_bits-low c = low_number (word c)
 pub returns : goal.returns
 unfolding of_bits
 returns c =
-    let n = c in
-    let s = n in
-    digits_centred p128 (2 ^ 64) (number_of s.args.y) ((1 - sign c) * 2 ^ 32 + word c / 2 ^ 32) (word c % 2 ^ 32) 4503603923386368 (fin false 4294971393 (pos 52)) s.requires.fact_1 (few c) (half (word c)) (lit< tt) (refl, refl) refl
-    (centre_of p128 18446744073709551588 s.args.y.low s.args.y.high (sign c) (word c) refl (lit≤ tt) s.requires.fact_1 s.requires.fact_2 (search rules) n.nonzero-sign.ensures c.wrapping_sub_u64-word.ensures.value (search rules))
+    digits_centred p128 (2 ^ 64) (number_of c.args.y) ((1 - sign c) * 2 ^ 32 + word c / 2 ^ 32) (word c % 2 ^ 32) 4503603923386368 (fin false 4294971393 (pos 52)) c.requires.fact_1 (few c) (half (word c)) (lit< tt) (refl, refl) refl
+    (centre_of p128 18446744073709551588 c.args.y.low c.args.y.high (sign c) (word c) refl (lit≤ tt) c.requires.fact_1 c.requires.fact_2 (search rules) c.nonzero-sign.ensures c.wrapping_sub_u64-word.ensures.value (search rules))

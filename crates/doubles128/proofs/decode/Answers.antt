@@ -8,5 +8,4 @@ use Rattle.doubles128.proofs.decode.Goals as goal
 pub returns : goal.returns
 unfolding decoded
 returns c =
-    let s = c in
-    ap (λ (x : Float). div binary64 x s.args.scale) c.centred_of.ensures ∙ ap (λ (x : Float). div binary64 (centred p128 (number_of s.args.y)) x) s.requires.fact_3
+    ap (λ (x : Float). div binary64 x c.args.scale) c.centred_of.ensures ∙ ap (λ (x : Float). div binary64 (centred p128 (number_of c.args.y)) x) c.requires.fact_3

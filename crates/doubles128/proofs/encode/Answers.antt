@@ -8,9 +8,7 @@ use Rattle.doubles128.proofs.encode.Goals as goal
 
 pub returns-then-answer-ne0 : goal.returns-then-answer-ne0
 returns-then-answer-ne0 c =
-    let k = c in
-    let s = k in
-    encoded_refused floor_limit128 s.args.x s.args.frac_bits p128 k.check_coordinate-answer.result k.check_coordinate-answer.ensures c.if-answer-ne0.true
+    encoded_refused floor_limit128 c.args.x c.args.frac_bits p128 c.check_coordinate-answer.result c.check_coordinate-answer.ensures c.if-answer-ne0.true
 
 pub element_of-requires : goal.element_of-requires
 element_of-requires c =
@@ -21,6 +19,4 @@ element_of-requires c =
 
 pub returns : goal.returns
 returns c =
-    let b = c in
-    let s = b in
-    encoded_accepted floor_limit128 s.args.x s.args.frac_bits p128 b.check_coordinate-answer.result b.check_coordinate-answer.ensures (number_of c.element_of.result) c.if-answer-ne0.false c.element_of.ensures
+    encoded_accepted floor_limit128 c.args.x c.args.frac_bits p128 c.check_coordinate-answer.result c.check_coordinate-answer.ensures (number_of c.element_of.result) c.if-answer-ne0.false c.element_of.ensures

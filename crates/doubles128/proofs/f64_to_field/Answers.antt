@@ -12,5 +12,4 @@ returns-then-frac_bits-gt-MAX_FRAC_BITS c = simp (lt-ltb _ _ c.if-frac_bits-gt-M
 
 pub returns : goal.returns
 returns c =
-    let s = c in
-    c.encode.ensures ∙ small_frac_bits p128 floor_limit128 s.args.x s.args.frac_bits c.if-frac_bits-gt-MAX_FRAC_BITS.false
+    c.encode.ensures ∙ small_frac_bits p128 floor_limit128 c.args.x c.args.frac_bits c.if-frac_bits-gt-MAX_FRAC_BITS.false

@@ -29,23 +29,16 @@ check_size-answer-requires c = below_p c
 pub returns-then-answer-ne0 : goal.returns-then-answer-ne0
 unfolding of_bits
 returns-then-answer-ne0 c =
-    let k = c in
-    let e = k in
-    let s = e in
-    decoded_refused (number_of s.args.y) s.args.frac_bits e.if-frac_bits-gt-MAX_FRAC_BITS.false (below_p e.before.before.before) k.check_size-answer.result k.check_size-answer.ensures c.if-answer-ne0.true
+    decoded_refused (number_of c.args.y) c.args.frac_bits c.if-frac_bits-gt-MAX_FRAC_BITS.false (below_p c.before.before.before) c.check_size-answer.result c.check_size-answer.ensures c.if-answer-ne0.true
 
 pub decode-requires : goal.decode-requires
 decode-requires c =
-    let k = c in
     record {
-      fact_1 = below_p k.before.before.before.before;
-      fact_2 = not_large (number_of k.args.y) k.check_size-answer.result k.check_size-answer.ensures c.if-answer-ne0.false;
+      fact_1 = below_p c.before.before.before.before;
+      fact_2 = not_large (number_of c.args.y) c.check_size-answer.result c.check_size-answer.ensures c.if-answer-ne0.false;
       fact_3 = c.scale_of.ensures;
     }
 
 pub returns : goal.returns
 returns c =
-    let k = c in
-    let e = k in
-    let s = e in
-    decoded_accepted (number_of s.args.y) s.args.frac_bits e.if-frac_bits-gt-MAX_FRAC_BITS.false (below_p e.before.before.before.before.before) k.check_size-answer.result k.check_size-answer.ensures c.decode.result c.if-answer-ne0.false c.decode.ensures
+    decoded_accepted (number_of c.args.y) c.args.frac_bits c.if-frac_bits-gt-MAX_FRAC_BITS.false (below_p c.before.before.before.before.before) c.check_size-answer.result c.check_size-answer.ensures c.decode.result c.if-answer-ne0.false c.decode.ensures

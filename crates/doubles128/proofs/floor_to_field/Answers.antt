@@ -13,10 +13,7 @@ After-less-carry = lts.After-less tie.the-claims reads.Pre reads.Post tie.handed
 
 parts : (c : After-less-carry) → Signed (floor_at c.args.w) c.far_floor.result c.sign_of-sign.result
 parts c =
-    let f = c in
-    let g = f in
-    let s = g in
-    signed_of s.args.w _ _ s.requires f.far_floor.ensures g.sign_of-sign.ensures
+    signed_of c.args.w _ _ c.requires c.far_floor.ensures c.sign_of-sign.ensures
 
 few : (c : After-less-carry) → c.sign_of-sign.result ≤ 1
 few c = sign_fits _ _ _ (parts c)
@@ -26,13 +23,9 @@ overflow_mul-high c = record { fits = upper_word c.sign_of-sign.result (few c) }
 
 pub overflow_add-high : goal.overflow_add-high
 overflow_add-high c =
-    let g = c in
-    record { fits = upper_fits g.sign_of-sign.result c.less-carry.result (few c) (flag_is _ (ltb c.wrapping_add_u64-low.result g.sign_of-sign.result) c.less-carry.ensures) }
+    record { fits = upper_fits c.sign_of-sign.result c.less-carry.result (few c) (flag_is _ (ltb c.wrapping_add_u64-low.result c.sign_of-sign.result) c.less-carry.ensures) }
 
 pub returns : goal.returns
 returns c =
-    let a = c in
-    let f = a in
-    let g = f in
-    element_is _ f.far_floor.result g.sign_of-sign.result a.wrapping_add_u64-low.result c.less-carry.result (parts c)
-    (carried f.far_floor.result g.sign_of-sign.result a.wrapping_add_u64-low.result c.less-carry.result (few c) (search rules) a.wrapping_add_u64-low.ensures.value c.less-carry.ensures)
+    element_is _ c.far_floor.result c.sign_of-sign.result c.wrapping_add_u64-low.result c.less-carry.result (parts c)
+    (carried c.far_floor.result c.sign_of-sign.result c.wrapping_add_u64-low.result c.less-carry.result (few c) (search rules) c.wrapping_add_u64-low.ensures.value c.less-carry.ensures)

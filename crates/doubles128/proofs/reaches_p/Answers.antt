@@ -8,5 +8,4 @@ overflow_sub-result c = le_trans (flag_is _ (not (eqb c.args.y.low 0)) c.nonzero
 
 pub returns : goal.returns
 returns c =
-    let s = c in
-    ap (λ (n : ℕ). leb (18446744073709551589 - n) s.args.y.high) c.nonzero.ensures ∙ reaches 18446744073709551588 s.args.y.low s.args.y.high (search rules)
+    ap (λ (n : ℕ). leb (18446744073709551589 - n) c.args.y.high) c.nonzero.ensures ∙ reaches 18446744073709551588 c.args.y.low c.args.y.high (search rules)

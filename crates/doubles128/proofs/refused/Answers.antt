@@ -17,7 +17,5 @@ held c = subst T (sym c.well_formed.0.1) tt
 
 pub returns-then-within_limit : goal.returns-then-within_limit
 returns-then-within_limit c =
-    let k = c in
-    let s = k in
-    let q = k.small_flag-small.ensures in
-    (q.0, λ z. not_refused floor_limit128 s.args.x s.args.frac_bits (lit< tt) s.args.scale (held s.before.before.before) s.requires (q.1 z) (sym c.within_limit.ensures ∙ c.if-within_limit.true))
+    let q = c.small_flag-small.ensures in
+    (q.0, λ z. not_refused floor_limit128 c.args.x c.args.frac_bits (lit< tt) c.args.scale (held c.before.before.before) c.requires (q.1 z) (sym c.within_limit.ensures ∙ c.if-within_limit.true))

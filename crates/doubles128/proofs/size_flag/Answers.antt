@@ -7,13 +7,9 @@ use Rattle.doubles128.proofs.size_flag.Goals as goal
 
 pub overflow_sub-step : goal.overflow_sub-step
 overflow_sub-step c =
-    let l = c in
-    le_trans (flag_is _ (ltb 1 l.args.y.low) l.less-step.ensures) (lit≤ tt)
+    le_trans (flag_is _ (ltb 1 c.args.y.low) c.less-step.ensures) (lit≤ tt)
 
 pub returns : goal.returns
 returns c =
-    let w = c in
-    let l = w in
-    let s = l in
     c.less.ensures
-    ∙ ap flag (size_flag_is p128 18446744073709551588 s.args.y.low s.args.y.high l.less-step.result w.wrapping_sub_u64-middle.result refl (lit≤ tt) (lit< tt) s.requires (search rules) l.less-step.ensures w.wrapping_sub_u64-middle.ensures.value (search rules))
+    ∙ ap flag (size_flag_is p128 18446744073709551588 c.args.y.low c.args.y.high c.less-step.result c.wrapping_sub_u64-middle.result refl (lit≤ tt) (lit< tt) c.requires (search rules) c.less-step.ensures c.wrapping_sub_u64-middle.ensures.value (search rules))

@@ -8,13 +8,9 @@ use Rattle.doubles128.proofs.size_of.Goals as goal
 pub returns-then-w : goal.returns-then-w
 unfolding of_bits
 returns-then-w c =
-    let f = c in
-    let s = f in
-    size_below _ f.far_floor-word.result _ c.wrapping_sub_u64.result (signed_of s.args.w _ _ s.requires f.far_floor-word.ensures refl) (ap flag c.if-w.true) (search rules) c.wrapping_sub_u64.ensures.value
+    size_below _ c.far_floor-word.result _ c.wrapping_sub_u64.result (signed_of c.args.w _ _ c.requires c.far_floor-word.ensures refl) (ap flag c.if-w.true) (search rules) c.wrapping_sub_u64.ensures.value
 
 pub returns-else-w : goal.returns-else-w
 unfolding of_bits
 returns-else-w c =
-    let f = c in
-    let s = f in
-    size_level _ f.far_floor-word.result _ (signed_of s.args.w _ _ s.requires f.far_floor-word.ensures refl) (ap flag c.if-w.false)
+    size_level _ c.far_floor-word.result _ (signed_of c.args.w _ _ c.requires c.far_floor-word.ensures refl) (ap flag c.if-w.false)

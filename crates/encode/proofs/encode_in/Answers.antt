@@ -49,25 +49,21 @@ passed c = param_accepted Field64 _ (ap (λ (a : Answer). a.number) (sym c.check
 -- the answer by the rules up to 9
 early : (c : After-check_rows-early) → let s = c in c.check_rows-early.result ≡ in_order (take 6 (encode_rules Field64 s.args.param s.args.gradient.now (bytes s.before.before.before.before.before.before.before.before.before.before.before.before) s.args.measurement.now s.args.results.now))
 early c =
-    let s = c in
-    early_is Field64 s.args.param s.args.gradient.now (bytes s.before.before.before.before.before.before.before.before.before.before.before.before) s.args.measurement.now s.args.results.now _ c.new-pine.ensures _ _ (ap (λ (a : Answer). a.number) (passed c.before.before.before.before)) (c.check_row-row_2.ensures ∙ ap (λ (n : ℕ). row_rule 2 (length (stream_from s.args.seeded n s.args.row.now)) n) (c.stream_len.ensures ∙ stream_is _ _ c.new-pine.ensures)) c.check_rows-early.ensures
+    early_is Field64 c.args.param c.args.gradient.now (bytes c.before.before.before.before.before.before.before.before.before.before.before.before) c.args.measurement.now c.args.results.now _ c.new-pine.ensures _ _ (ap (λ (a : Answer). a.number) (passed c.before.before.before.before)) (c.check_row-row_2.ensures ∙ ap (λ (n : ℕ). row_rule 2 (length (stream_from c.args.seeded n c.args.row.now)) n) (c.stream_len.ensures ∙ stream_is _ _ c.new-pine.ensures)) c.check_rows-early.ensures
 
 -- they are met
 met : (c : Else-early-ne0) → let s = c in in_order (take 6 (encode_rules Field64 s.args.param s.args.gradient.now (bytes s.before.before.before.before.before.before.before.before.before.before.before.before.before.before) s.args.measurement.now s.args.results.now)) ≡ accepted
 met c =
-    let s = c in
-    early_met Field64 s.args.param s.args.gradient.now (bytes s.before.before.before.before.before.before.before.before.before.before.before.before.before.before) s.args.measurement.now s.args.results.now _ (early c.before.before) c.if-early-ne0.false
+    early_met Field64 c.args.param c.args.gradient.now (bytes c.before.before.before.before.before.before.before.before.before.before.before.before.before.before) c.args.measurement.now c.args.results.now _ (early c.before.before) c.if-early-ne0.false
 
 -- so the row for the results is as long as theirs
 whole : (c : Else-early-ne0) → length c.args.found.now ≡ length c.args.results.now
 whole c =
-    let s = c in
-    omega (arith, s.requires, few Field64 s.args.param s.args.gradient.now (bytes s.before.before.before.before.before.before.before.before.before.before.before.before.before.before) s.args.measurement.now s.args.results.now (met c) words_64)
+    omega (arith, c.requires, few Field64 c.args.param c.args.gradient.now (bytes c.before.before.before.before.before.before.before.before.before.before.before.before.before.before) c.args.measurement.now c.args.results.now (met c) words_64)
 
 pub returns-then-inputs-ne0 : goal.returns-then-inputs-ne0
 returns-then-inputs-ne0 c =
-    let s = c in
-    inputs_refused Field64 s.args.param s.args.gradient.now (bytes s.before.before.before.before.before.before.before.before.before) s.args.measurement.now s.args.results.now _ c.check_param-inputs.ensures c.if-inputs-ne0.true
+    inputs_refused Field64 c.args.param c.args.gradient.now (bytes c.before.before.before.before.before.before.before.before.before) c.args.measurement.now c.args.results.now _ c.check_param-inputs.ensures c.if-inputs-ne0.true
 
 pub new-pine-requires : goal.new-pine-requires
 new-pine-requires c = derivable_64 (passed c.before)
@@ -83,22 +79,19 @@ check_rows-early-requires c = scale_is _ _ c.new-pine.ensures
 
 pub returns-then-early-ne0 : goal.returns-then-early-ne0
 returns-then-early-ne0 c =
-    let s = c in
-    early_refused Field64 s.args.param s.args.gradient.now (bytes s.before.before.before.before.before.before.before.before.before.before.before.before.before.before.before) s.args.measurement.now s.args.results.now _ (early c.before.before.before) c.if-early-ne0.true
+    early_refused Field64 c.args.param c.args.gradient.now (bytes c.before.before.before.before.before.before.before.before.before.before.before.before.before.before.before) c.args.measurement.now c.args.results.now _ (early c.before.before.before) c.if-early-ne0.true
 
 pub overflow_add-per : goal.overflow_add-per
 overflow_add-per c =
-    let s = c in
-    omega (arith, (ready Field64 s.args.param s.args.gradient.now (bytes s.before.before.before.before.before.before.before.before.before.before.before.before.before.before.before) s.args.measurement.now s.args.results.now (met c.before)).gradient_long, (ready Field64 s.args.param s.args.gradient.now (bytes s.before.before.before.before.before.before.before.before.before.before.before.before.before.before.before) s.args.measurement.now s.args.results.now (met c.before)).dimension)
+    omega (arith, (ready Field64 c.args.param c.args.gradient.now (bytes c.before.before.before.before.before.before.before.before.before.before.before.before.before.before.before) c.args.measurement.now c.args.results.now (met c.before)).gradient_long, (ready Field64 c.args.param c.args.gradient.now (bytes c.before.before.before.before.before.before.before.before.before.before.before.before.before.before.before) c.args.measurement.now c.args.results.now (met c.before)).dimension)
 
 pub norm_and_tests-norm-requires : goal.norm_and_tests-norm-requires
 norm_and_tests-norm-requires c =
-    let s = c in
     let n = c.new-pine in
-    let h = ready Field64 s.args.param s.args.gradient.now (bytes s.before.before.before.before.before.before.before.before.before.before.before.before.before.before.before.before) s.args.measurement.now s.args.results.now (met c.before.before) in
-    let w = room Field64 s.args.param s.args.gradient.now (bytes s.before.before.before.before.before.before.before.before.before.before.before.before.before.before.before.before) s.args.measurement.now s.args.results.now (met c.before.before) words_64 (length s.args.found.now) (whole c.before.before) in
+    let h = ready Field64 c.args.param c.args.gradient.now (bytes c.before.before.before.before.before.before.before.before.before.before.before.before.before.before.before.before) c.args.measurement.now c.args.results.now (met c.before.before) in
+    let w = room Field64 c.args.param c.args.gradient.now (bytes c.before.before.before.before.before.before.before.before.before.before.before.before.before.before.before.before) c.args.measurement.now c.args.results.now (met c.before.before) words_64 (length c.args.found.now) (whole c.before.before) in
     record {
-      usable = (subst (λ (f : ℕ). Usable floor_limit64 f s.args.gradient.now) (sym (fraction_is s.args.param _ n.ensures)) h.usable, scale_is s.args.param _ n.ensures);
+      usable = (subst (λ (f : ℕ). Usable floor_limit64 f c.args.gradient.now) (sym (fraction_is c.args.param _ n.ensures)) h.usable, scale_is c.args.param _ n.ensures);
       per_in_bounds = rw w.whole (le_of_eq (sym h.stream_long));
       results_nonzero = w.tests;
       per_nonzero = w.per;
@@ -106,20 +99,18 @@ norm_and_tests-norm-requires c =
 
 pub finish-requires : goal.finish-requires
 finish-requires c =
-    let s = c in
     let n = c.new-pine in
-    let h = ready Field64 s.args.param s.args.gradient.now (bytes s.before.before.before.before.before.before.before.before.before.before.before.before.before.before.before.before.before.before.before.before.before) s.args.measurement.now s.args.results.now (met c.before.before.before.before.before.before.before) in
+    let h = ready Field64 c.args.param c.args.gradient.now (bytes c.before.before.before.before.before.before.before.before.before.before.before.before.before.before.before.before.before.before.before.before.before) c.args.measurement.now c.args.results.now (met c.before.before.before.before.before.before.before) in
     let t = c.norm_and_tests-norm in
     record {
       pine_value = (n.ensures, h.inputs);
-      usable = (h.usable, t.ensures.result_value ∙ ap (λ (f : ℕ). true_sq_norm_of f s.args.gradient.now) (fraction_is s.args.param _ n.ensures));
-      below = (results_below p64 (omega arith) _ _ _ _ _ t.ensures.results_after, rooms Field64 s.args.param s.args.gradient.now (bytes s.before.before.before.before.before.before.before.before.before.before.before.before.before.before.before.before.before.before.before.before.before) s.args.measurement.now s.args.results.now (met c.before.before.before.before.before.before.before) words_64 t.new.results (t.auto.results ∙ whole c.before.before.before.before.before.before.before));
+      usable = (h.usable, t.ensures.result_value ∙ ap (λ (f : ℕ). true_sq_norm_of f c.args.gradient.now) (fraction_is c.args.param _ n.ensures));
+      below = (results_below p64 (omega arith) _ _ _ _ _ t.ensures.results_after, rooms Field64 c.args.param c.args.gradient.now (bytes c.before.before.before.before.before.before.before.before.before.before.before.before.before.before.before.before.before.before.before.before.before) c.args.measurement.now c.args.results.now (met c.before.before.before.before.before.before.before) words_64 t.new.results (t.auto.results ∙ whole c.before.before.before.before.before.before.before));
     }
 
 pub returns : goal.returns
 returns c =
-    let s = c in
     let n = c.new-pine in
     let t = c.norm_and_tests-norm in
-    let w = room Field64 s.args.param s.args.gradient.now (bytes s.before.before.before.before.before.before.before.before.before.before.before.before.before.before.before.before.before.before.before.before.before.before.before.before.before.before) s.args.measurement.now s.args.results.now (met c.before.before.before.before.before.before.before.before.before.before.before.before) words_64 (length s.args.found.now) (whole c.before.before.before.before.before.before.before.before.before.before.before.before) in
-    c.finish.ensures ∙ late_is Field64 s.args.param s.args.gradient.now (bytes s.before.before.before.before.before.before.before.before.before.before.before.before.before.before.before.before.before.before.before.before.before.before.before.before.before.before) s.args.measurement.now s.args.results.now (met c.before.before.before.before.before.before.before.before.before.before.before.before) words_64 _ (length s.args.found.now) _ (whole c.before.before.before.before.before.before.before.before.before.before.before.before) (fraction_is s.args.param _ n.ensures) (rw w.whole at t.ensures.results_after)
+    let w = room Field64 c.args.param c.args.gradient.now (bytes c.before.before.before.before.before.before.before.before.before.before.before.before.before.before.before.before.before.before.before.before.before.before.before.before.before.before) c.args.measurement.now c.args.results.now (met c.before.before.before.before.before.before.before.before.before.before.before.before) words_64 (length c.args.found.now) (whole c.before.before.before.before.before.before.before.before.before.before.before.before) in
+    c.finish.ensures ∙ late_is Field64 c.args.param c.args.gradient.now (bytes c.before.before.before.before.before.before.before.before.before.before.before.before.before.before.before.before.before.before.before.before.before.before.before.before.before.before) c.args.measurement.now c.args.results.now (met c.before.before.before.before.before.before.before.before.before.before.before.before) words_64 _ (length c.args.found.now) _ (whole c.before.before.before.before.before.before.before.before.before.before.before.before) (fraction_is c.args.param _ n.ensures) (rw w.whole at t.ensures.results_after)

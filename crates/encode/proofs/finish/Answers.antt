@@ -14,36 +14,30 @@ use Rattle.encode.proofs.finish.Goals as goal
 
 pub check_norm_and_tests-late-requires : goal.check_norm_and_tests-late-requires
 check_norm_and_tests-late-requires c =
-    let s = c in
-    omega (arith, (bounds_fit s.args.param _ s.requires.pine_value.0 (derivable_64 s.requires.pine_value.1)).0, c.wr_test_bound.ensures)
+    omega (arith, (bounds_fit c.args.param _ c.requires.pine_value.0 (derivable_64 c.requires.pine_value.1)).0, c.wr_test_bound.ensures)
 
 pub returns-then-late-ne0 : goal.returns-then-late-ne0
 returns-then-late-ne0 c =
-    let s = c in
-    let e = s.requires.pine_value.0 in
-    late_refused Field64 s.args.param s.args.gradient.now s.args.found.now s.args.measurement.now s.args.results.now s.requires.below.1 _ e (bound_is s.args.param _ e (derivable_64 s.requires.pine_value.1)) (lit< tt) (words_of s.args.norm) _ _ _ c.wr_test_bound.ensures s.requires.usable.1 c.reduced-v.ensures c.check_norm_and_tests-late.ensures c.if-late-ne0.true
+    let e = c.requires.pine_value.0 in
+    late_refused Field64 c.args.param c.args.gradient.now c.args.found.now c.args.measurement.now c.args.results.now c.requires.below.1 _ e (bound_is c.args.param _ e (derivable_64 c.requires.pine_value.1)) (lit< tt) (words_of c.args.norm) _ _ _ c.wr_test_bound.ensures c.requires.usable.1 c.reduced-v.ensures c.check_norm_and_tests-late.ensures c.if-late-ne0.true
 
 pub write_measurement-requires : goal.write_measurement-requires
 write_measurement-requires c =
-    let s = c in
-    let e = s.requires.pine_value.0 in
-    let b = bounds_fit s.args.param _ e (derivable_64 s.requires.pine_value.1) in
+    let e = c.requires.pine_value.0 in
+    let b = bounds_fit c.args.param _ e (derivable_64 c.requires.pine_value.1) in
     record {
-      usable = subst (λ (f : ℕ). Usable floor_limit64 f s.args.gradient.now) (sym (fraction_is s.args.param _ e)) s.requires.usable.0;
-      scale_value = scale_is s.args.param _ e;
-      measurement_len = rest_long Field64 s.args.param s.args.gradient.now s.args.found.now s.args.measurement.now s.args.results.now s.requires.below.1 _ e;
-      below = (s.requires.below.0, (b.1.0, b.0));
-      v_lt_p64 = (rw c.reduced-v.ensures (mod-lt (words_of s.args.norm) (lit< tt)), b.1.1);
+      usable = subst (λ (f : ℕ). Usable floor_limit64 f c.args.gradient.now) (sym (fraction_is c.args.param _ e)) c.requires.usable.0;
+      scale_value = scale_is c.args.param _ e;
+      measurement_len = rest_long Field64 c.args.param c.args.gradient.now c.args.found.now c.args.measurement.now c.args.results.now c.requires.below.1 _ e;
+      below = (c.requires.below.0, (b.1.0, b.0));
+      v_lt_p64 = (rw c.reduced-v.ensures (mod-lt (words_of c.args.norm) (lit< tt)), b.1.1);
     }
 
 pub copy_row-requires : goal.copy_row-requires
 copy_row-requires c =
-    let s = c in
-    s.requires.below.1.1.1.1 ∙ sym s.requires.below.1.1.0
+    c.requires.below.1.1.1.1 ∙ sym c.requires.below.1.1.0
 
 pub returns : goal.returns
 returns c =
-    let s = c in
-    let e = s.requires.pine_value.0 in
-    let k = c in
-    late_accepted Field64 s.args.param s.args.gradient.now s.args.found.now s.args.measurement.now s.args.results.now s.requires.below.1 _ e (bound_is s.args.param _ e (derivable_64 s.requires.pine_value.1)) (lit< tt) (words_of s.args.norm) _ _ _ k.wr_test_bound.ensures s.requires.usable.1 k.reduced-v.ensures k.check_norm_and_tests-late.ensures _ c.write_measurement.ensures _ c.if-late-ne0.false c.copy_row.ensures
+    let e = c.requires.pine_value.0 in
+    late_accepted Field64 c.args.param c.args.gradient.now c.args.found.now c.args.measurement.now c.args.results.now c.requires.below.1 _ e (bound_is c.args.param _ e (derivable_64 c.requires.pine_value.1)) (lit< tt) (words_of c.args.norm) _ _ _ c.wr_test_bound.ensures c.requires.usable.1 c.reduced-v.ensures c.check_norm_and_tests-late.ensures _ c.write_measurement.ensures _ c.if-late-ne0.false c.copy_row.ensures

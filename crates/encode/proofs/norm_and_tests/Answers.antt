@@ -13,37 +13,33 @@ use Rattle.encode.proofs.norm_and_tests.Goals as goal
 
 pub norm_from_seed-requires : goal.norm_from_seed-requires
 norm_from_seed-requires c =
-    let s = c in
-    let n = length s.args.results.now * s.args.per in
+    let n = length c.args.results.now * c.args.per in
     record {
-      usable = s.requires.usable;
-      seed_len = (is_seed n s.args.row.now (some_bytes (length s.args.results.now) s.args.per s.requires.results_nonzero.0 s.requires.per_nonzero.0.0) (rw (from_seed s.args.seeded n s.args.row.now c.if-seeded.true) at s.requires.per_in_bounds), s.requires.results_nonzero);
-      per_nonzero = s.requires.per_nonzero;
+      usable = c.requires.usable;
+      seed_len = (is_seed n c.args.row.now (some_bytes (length c.args.results.now) c.args.per c.requires.results_nonzero.0 c.requires.per_nonzero.0.0) (rw (from_seed c.args.seeded n c.args.row.now c.if-seeded.true) at c.requires.per_in_bounds), c.requires.results_nonzero);
+      per_nonzero = c.requires.per_nonzero;
     }
 
 pub returns-then-seeded : goal.returns-then-seeded
 returns-then-seeded c =
-    let s = c in
     let t = c.norm_from_seed in
     record {
       result_value = t.ensures.result_value;
-      results_after = t.ensures.results_after ∙ ap (λ (bytes : List ℕ). tests_of p64 s.args.per (length s.args.results.now) bytes (elements p64 s.args.frac_bits s.args.gradient.now)) (sym (from_seed s.args.seeded (length s.args.results.now * s.args.per) s.args.row.now c.if-seeded.true));
+      results_after = t.ensures.results_after ∙ ap (λ (bytes : List ℕ). tests_of p64 c.args.per (length c.args.results.now) bytes (elements p64 c.args.frac_bits c.args.gradient.now)) (sym (from_seed c.args.seeded (length c.args.results.now * c.args.per) c.args.row.now c.if-seeded.true));
     }
 
 pub norm_and_tests-requires : goal.norm_and_tests-requires
 norm_and_tests-requires c =
-    let s = c in
     record {
-      usable = s.requires.usable.0;
-      scale_value = s.requires.usable.1;
-      per_in_bounds = (rw (lent s.args.seeded (length s.args.results.now * s.args.per) s.args.row.now c.if-seeded.false) at s.requires.per_in_bounds, (s.requires.per_nonzero.1, omega (arith, s.requires.per_nonzero.0)));
+      usable = c.requires.usable.0;
+      scale_value = c.requires.usable.1;
+      per_in_bounds = (rw (lent c.args.seeded (length c.args.results.now * c.args.per) c.args.row.now c.if-seeded.false) at c.requires.per_in_bounds, (c.requires.per_nonzero.1, omega (arith, c.requires.per_nonzero.0)));
     }
 
 pub returns : goal.returns
 returns c =
-    let s = c in
     let t = c.norm_and_tests in
     record {
       result_value = t.ensures.result_value;
-      results_after = t.ensures.results_after ∙ ap (λ (bytes : List ℕ). tests_of p64 s.args.per (length s.args.results.now) bytes (elements p64 s.args.frac_bits s.args.gradient.now)) (sym (lent s.args.seeded (length s.args.results.now * s.args.per) s.args.row.now c.if-seeded.false));
+      results_after = t.ensures.results_after ∙ ap (λ (bytes : List ℕ). tests_of p64 c.args.per (length c.args.results.now) bytes (elements p64 c.args.frac_bits c.args.gradient.now)) (sym (lent c.args.seeded (length c.args.results.now * c.args.per) c.args.row.now c.if-seeded.false));
     }

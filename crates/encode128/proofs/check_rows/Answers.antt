@@ -5,13 +5,11 @@ use Rattle.encode128.proofs.check_rows.Goals as goal
 
 pub overflow_mul-pine : goal.overflow_mul-pine
 overflow_mul-pine c =
-    let s = c in
-    record { fits = (words_fit s.args.pine s.requires).0 }
+    record { fits = (words_fit c.args.pine c.requires).0 }
 
 pub overflow_mul-pine-2 : goal.overflow_mul-pine-2
 overflow_mul-pine-2 c =
-    let s = c in
-    record { fits = (words_fit s.args.pine s.requires).1 }
+    record { fits = (words_fit c.args.pine c.requires).1 }
 
 pub check_coordinates-coordinates-requires : goal.check_coordinates-coordinates-requires
 check_coordinates-coordinates-requires c =

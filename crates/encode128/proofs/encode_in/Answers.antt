@@ -41,19 +41,16 @@ derived c = record { param = _; derivable = derivable_128 (passed c.before); is 
 -- the answer by the rules up to 9
 early : (c : After-check_rows-early) → let s = c in c.check_rows-early.result ≡ in_order (take 6 (encode_rules Field128 s.args.param s.args.gradient.now s.args.stream.now s.args.measurement.now s.args.results.now))
 early c =
-    let s = c in
-    early_is Field128 s.args.param s.args.gradient.now s.args.stream.now s.args.measurement.now s.args.results.now _ c.new-pine.ensures _ _ (ap (λ (a : Answer). a.number) (passed c.before.before.before.before)) (c.check_len-row_2.ensures ∙ ap (λ (n : ℕ). row_rule 2 (length s.args.stream.now) n) (c.stream_len.ensures ∙ stream_is _ _ c.new-pine.ensures)) c.check_rows-early.ensures
+    early_is Field128 c.args.param c.args.gradient.now c.args.stream.now c.args.measurement.now c.args.results.now _ c.new-pine.ensures _ _ (ap (λ (a : Answer). a.number) (passed c.before.before.before.before)) (c.check_len-row_2.ensures ∙ ap (λ (n : ℕ). row_rule 2 (length c.args.stream.now) n) (c.stream_len.ensures ∙ stream_is _ _ c.new-pine.ensures)) c.check_rows-early.ensures
 
 -- they are met
 met : (c : Else-early-ne0) → let s = c in in_order (take 6 (encode_rules Field128 s.args.param s.args.gradient.now s.args.stream.now s.args.measurement.now s.args.results.now)) ≡ accepted
 met c =
-    let s = c in
-    early_met Field128 s.args.param s.args.gradient.now s.args.stream.now s.args.measurement.now s.args.results.now _ (early c.before.before) c.if-early-ne0.false
+    early_met Field128 c.args.param c.args.gradient.now c.args.stream.now c.args.measurement.now c.args.results.now _ (early c.before.before) c.if-early-ne0.false
 
 pub returns-then-inputs-ne0 : goal.returns-then-inputs-ne0
 returns-then-inputs-ne0 c =
-    let s = c in
-    inputs_refused Field128 s.args.param s.args.gradient.now s.args.stream.now s.args.measurement.now s.args.results.now _ c.check_param-inputs.ensures c.if-inputs-ne0.true
+    inputs_refused Field128 c.args.param c.args.gradient.now c.args.stream.now c.args.measurement.now c.args.results.now _ c.check_param-inputs.ensures c.if-inputs-ne0.true
 
 pub new-pine-requires : goal.new-pine-requires
 new-pine-requires c = derivable_128 (passed c.before)
@@ -66,18 +63,15 @@ check_rows-early-requires c = derived c.before.before.before
 
 pub returns-then-early-ne0 : goal.returns-then-early-ne0
 returns-then-early-ne0 c =
-    let s = c in
-    early_refused Field128 s.args.param s.args.gradient.now s.args.stream.now s.args.measurement.now s.args.results.now _ (early c.before.before.before) c.if-early-ne0.true
+    early_refused Field128 c.args.param c.args.gradient.now c.args.stream.now c.args.measurement.now c.args.results.now _ (early c.before.before.before) c.if-early-ne0.true
 
 pub overflow_add-per : goal.overflow_add-per
 overflow_add-per c =
-    let s = c in
-    record { fits = coordinates_fit s.args.param s.args.gradient.now s.args.stream.now s.args.measurement.now s.args.results.now s.args.found.now (met c.before) s.requires.0 }
+    record { fits = coordinates_fit c.args.param c.args.gradient.now c.args.stream.now c.args.measurement.now c.args.results.now c.args.found.now (met c.before) c.requires.0 }
 
 pub norm_and_tests-norm-requires : goal.norm_and_tests-norm-requires
 norm_and_tests-norm-requires c =
-    let s = c in
-    let both = asked s.args.param s.args.gradient.now s.args.stream.now s.args.measurement.now s.args.results.now s.args.found.now (met c.before.before) s.requires.0 _ c.new-pine.ensures in
+    let both = asked c.args.param c.args.gradient.now c.args.stream.now c.args.measurement.now c.args.results.now c.args.found.now (met c.before.before) c.requires.0 _ c.new-pine.ensures in
     record {
       usable = both.0;
       scale_value = both.1.0;
@@ -87,22 +81,20 @@ norm_and_tests-norm-requires c =
 
 pub finish-requires : goal.finish-requires
 finish-requires c =
-    let s = c in
     let n = c.new-pine in
     let t = c.norm_and_tests-norm in
-    let f = fraction_is s.args.param _ n.ensures in
-    let h = met_rules s.args.param s.args.gradient.now s.args.stream.now s.args.measurement.now s.args.results.now s.args.found.now (met c.before.before.before.before.before.before.before.before) s.requires.0 in
+    let f = fraction_is c.args.param _ n.ensures in
+    let h = met_rules c.args.param c.args.gradient.now c.args.stream.now c.args.measurement.now c.args.results.now c.args.found.now (met c.before.before.before.before.before.before.before.before) c.requires.0 in
     let kept = t.auto.results in
     record {
       pine_value = (n.ensures, h.inputs);
-      usable = (h.usable, t.ensures.result_value ∙ ap (λ (f : ℕ). true_sq_norm_of f s.args.gradient.now) f);
-      below = (below s.args.param s.args.gradient.now s.args.stream.now s.args.measurement.now s.args.results.now s.args.found.now (met c.before.before.before.before.before.before.before.before) s.requires.0 _ f _ kept t.ensures.results_after, exact s.args.param s.args.gradient.now s.args.stream.now s.args.measurement.now s.args.results.now s.args.found.now (met c.before.before.before.before.before.before.before.before) s.requires.0 _ f _ kept t.ensures.results_after);
-      rooms = (room_for s.args.param s.args.gradient.now s.args.stream.now s.args.measurement.now s.args.results.now s.args.found.now (met c.before.before.before.before.before.before.before.before) s.requires.0 _ f _ kept t.ensures.results_after, s.requires.1 ∙ tests s.args.param s.args.gradient.now s.args.stream.now s.args.measurement.now s.args.results.now s.args.found.now (met c.before.before.before.before.before.before.before.before) s.requires.0);
+      usable = (h.usable, t.ensures.result_value ∙ ap (λ (f : ℕ). true_sq_norm_of f c.args.gradient.now) f);
+      below = (below c.args.param c.args.gradient.now c.args.stream.now c.args.measurement.now c.args.results.now c.args.found.now (met c.before.before.before.before.before.before.before.before) c.requires.0 _ f _ kept t.ensures.results_after, exact c.args.param c.args.gradient.now c.args.stream.now c.args.measurement.now c.args.results.now c.args.found.now (met c.before.before.before.before.before.before.before.before) c.requires.0 _ f _ kept t.ensures.results_after);
+      rooms = (room_for c.args.param c.args.gradient.now c.args.stream.now c.args.measurement.now c.args.results.now c.args.found.now (met c.before.before.before.before.before.before.before.before) c.requires.0 _ f _ kept t.ensures.results_after, c.requires.1 ∙ tests c.args.param c.args.gradient.now c.args.stream.now c.args.measurement.now c.args.results.now c.args.found.now (met c.before.before.before.before.before.before.before.before) c.requires.0);
     }
 
 pub returns : goal.returns
 returns c =
-    let s = c in
     let n = c.new-pine in
     let t = c.norm_and_tests-norm in
-    c.finish.ensures ∙ whole s.args.param s.args.gradient.now s.args.stream.now s.args.measurement.now s.args.results.now s.args.found.now (met c.before.before.before.before.before.before.before.before.before.before.before.before.before.before.before) s.requires.0 _ (fraction_is s.args.param _ n.ensures) _ t.auto.results t.ensures.results_after
+    c.finish.ensures ∙ whole c.args.param c.args.gradient.now c.args.stream.now c.args.measurement.now c.args.results.now c.args.found.now (met c.before.before.before.before.before.before.before.before.before.before.before.before.before.before.before) c.requires.0 _ (fraction_is c.args.param _ n.ensures) _ t.auto.results t.ensures.results_after

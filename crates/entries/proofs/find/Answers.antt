@@ -9,32 +9,25 @@ use Rattle.entries.proofs.find.Goals as goal
 
 pub loop-low-init : goal.loop-low-init
 loop-low-init c =
-    let s = c in
-    (omega arith, between_start s.args.key (keys_in s.args.count s.args.contents.now) s.args.count (length-keys_in s.args.count s.args.contents.now))
+    (omega arith, between_start c.args.key (keys_in c.args.count c.args.contents.now) c.args.count (length-keys_in c.args.count c.args.contents.now))
 
 pub key_at-requires : goal.key_at-requires
 key_at-requires c = omega arith
 
 pub loop-low-preserved-then-key_at-key : goal.loop-low-preserved-then-key_at-key
 loop-low-preserved-then-key_at-key c =
-    let l = c in
-    let s = l in
-    let n = s.args.count in
-    let k = s.args.contents.now in
-    let m = l.loop-low.low + (l.loop-low.high - l.loop-low.low) / 2 in
-    (l.loop-low.invariant.0, between_up s.args.key (keys_in n k) s.requires.1 l.loop-low.low l.loop-low.high m l.loop-low.invariant.1 (omega arith) (omega arith) _ (c.key_at.ensures ∙ sym (keys_in_at n k m (omega arith))) c.if-key_at-key.true)
+    let n = c.args.count in
+    let k = c.args.contents.now in
+    let m = c.loop-low.low + (c.loop-low.high - c.loop-low.low) / 2 in
+    (c.loop-low.invariant.0, between_up c.args.key (keys_in n k) c.requires.1 c.loop-low.low c.loop-low.high m c.loop-low.invariant.1 (omega arith) (omega arith) _ (c.key_at.ensures ∙ sym (keys_in_at n k m (omega arith))) c.if-key_at-key.true)
 
 pub loop-low-preserved : goal.loop-low-preserved
 loop-low-preserved c =
-    let l = c in
-    let s = l in
-    let n = s.args.count in
-    let k = s.args.contents.now in
-    let m = l.loop-low.low + (l.loop-low.high - l.loop-low.low) / 2 in
-    (omega arith, between_down s.args.key (keys_in n k) s.requires.1 l.loop-low.low l.loop-low.high m l.loop-low.invariant.1 (omega arith) (omega arith) _ (c.key_at.ensures ∙ sym (keys_in_at n k m (omega arith))) c.if-key_at-key.false)
+    let n = c.args.count in
+    let k = c.args.contents.now in
+    let m = c.loop-low.low + (c.loop-low.high - c.loop-low.low) / 2 in
+    (omega arith, between_down c.args.key (keys_in n k) c.requires.1 c.loop-low.low c.loop-low.high m c.loop-low.invariant.1 (omega arith) (omega arith) _ (c.key_at.ensures ∙ sym (keys_in_at n k m (omega arith))) c.if-key_at-key.false)
 
 pub returns : goal.returns
 returns c =
-    let l = c in
-    let s = l in
-    sym (between_end s.args.key (keys_in s.args.count s.args.contents.now) l.loop-low.low l.loop-low.high l.loop-low.invariant.1 c.loop-low-test.false).0
+    sym (between_end c.args.key (keys_in c.args.count c.args.contents.now) c.loop-low.low c.loop-low.high c.loop-low.invariant.1 c.loop-low-test.false).0

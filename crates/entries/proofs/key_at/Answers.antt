@@ -7,5 +7,4 @@ use Rattle.entries.proofs.key_at.Goals as goal
 
 pub returns : goal.returns
 returns c =
-    let s = c in
-    c.key_number.ensures ∙ ap key_in (rest_is s.args.contents.now (12 * s.args.i))
+    c.key_number.ensures ∙ ap key_in (rest_is c.args.contents.now (12 * c.args.i))

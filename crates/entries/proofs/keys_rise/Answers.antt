@@ -8,36 +8,28 @@ use Rattle.entries.proofs.keys_rise.Goals as goal
 
 pub returns-then-count-eq0 : goal.returns-then-count-eq0
 returns-then-count-eq0 c =
-    let s = c in
-    rise_none (keys_in s.args.count s.args.contents.now) (length-keys_in s.args.count s.args.contents.now ∙ c.if-count-eq0.true)
+    rise_none (keys_in c.args.count c.args.contents.now) (length-keys_in c.args.count c.args.contents.now ∙ c.if-count-eq0.true)
 
 pub loop-i-init : goal.loop-i-init
 loop-i-init c =
-    let s = c in
-    let n = s.args.count in
-    let k = s.args.contents.now in
+    let n = c.args.count in
+    let k = c.args.contents.now in
     (omega arith, rise_start (keys_in n k) _ (omega (arith, length-keys_in n k)) (c.key_at-last.ensures ∙ sym (keys_in_at n k 0 (omega arith))))
 
 pub returns-then-key-last : goal.returns-then-key-last
 returns-then-key-last c =
-    let l = c in
-    let s = l in
-    let n = s.args.count in
-    let k = s.args.contents.now in
-    rise_stops (keys_in n k) l.loop-i.i l.loop-i.last _ (omega (arith, length-keys_in n k)) (c.key_at-key.ensures ∙ sym (keys_in_at n k l.loop-i.i (omega arith))) c.if-key-last.true l.loop-i.invariant.1
+    let n = c.args.count in
+    let k = c.args.contents.now in
+    rise_stops (keys_in n k) c.loop-i.i c.loop-i.last _ (omega (arith, length-keys_in n k)) (c.key_at-key.ensures ∙ sym (keys_in_at n k c.loop-i.i (omega arith))) c.if-key-last.true c.loop-i.invariant.1
 
 pub loop-i-preserved : goal.loop-i-preserved
 loop-i-preserved c =
-    let l = c in
-    let s = l in
-    let n = s.args.count in
-    let k = s.args.contents.now in
-    (omega arith, rise_next (keys_in n k) l.loop-i.i l.loop-i.last _ (omega (arith, length-keys_in n k)) (c.key_at-key.ensures ∙ sym (keys_in_at n k l.loop-i.i (omega arith))) c.if-key-last.false l.loop-i.invariant.1)
+    let n = c.args.count in
+    let k = c.args.contents.now in
+    (omega arith, rise_next (keys_in n k) c.loop-i.i c.loop-i.last _ (omega (arith, length-keys_in n k)) (c.key_at-key.ensures ∙ sym (keys_in_at n k c.loop-i.i (omega arith))) c.if-key-last.false c.loop-i.invariant.1)
 
 pub returns : goal.returns
 returns c =
-    let l = c in
-    let s = l in
-    let n = s.args.count in
-    let k = s.args.contents.now in
-    rise_end (keys_in n k) l.loop-i.i l.loop-i.last (omega (arith, length-keys_in n k)) l.loop-i.invariant.1
+    let n = c.args.count in
+    let k = c.args.contents.now in
+    rise_end (keys_in n k) c.loop-i.i c.loop-i.last (omega (arith, length-keys_in n k)) c.loop-i.invariant.1

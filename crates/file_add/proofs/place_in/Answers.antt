@@ -10,16 +10,13 @@ use Rattle.file_add.proofs.place_in.Goals as goal
 
 pub slice_bounds-place_of-end : goal.slice_bounds-place_of-end
 slice_bounds-place_of-end c =
-    let s = c in
-    omega (arith, contents_fit p64 s.args.dimension s.args.file.now s.requires.0 _ c.count_of-count.ensures.0)
+    omega (arith, contents_fit p64 c.args.dimension c.args.file.now c.requires.0 _ c.count_of-count.ensures.0)
 
 pub place_of-requires : goal.place_of-requires
 place_of-requires c =
-    let s = c in
-    (contents_long p64 s.args.dimension s.args.file.now s.requires.0 _ c.count_of-count.ensures.0, contents_rise p64 s.args.dimension s.args.file.now s.requires.0 _ c.count_of-count.ensures.0)
+    (contents_long p64 c.args.dimension c.args.file.now c.requires.0 _ c.count_of-count.ensures.0, contents_rise p64 c.args.dimension c.args.file.now c.requires.0 _ c.count_of-count.ensures.0)
 
 pub returns : goal.returns
 returns c =
-    let s = c in
     let n = c.count_of-count.result in
-    (place_in_lem p64 s.args.dimension s.args.file.now s.requires.0 n c.count_of-count.ensures.0 _ _ (c.place_of.ensures.0 ∙ ap (λ (k : ℕ). place_of n (take (6 + 12 * n - 6) (drop 6 s.args.file.now)) k) c.key_number.ensures), c.place_of.ensures.1)
+    (place_in_lem p64 c.args.dimension c.args.file.now c.requires.0 n c.count_of-count.ensures.0 _ _ (c.place_of.ensures.0 ∙ ap (λ (k : ℕ). place_of n (take (6 + 12 * n - 6) (drop 6 c.args.file.now)) k) c.key_number.ensures), c.place_of.ensures.1)

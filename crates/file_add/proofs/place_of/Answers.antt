@@ -5,15 +5,12 @@ use Rattle.file_add.proofs.place_of.Goals as goal
 
 pub returns-then-there-key : goal.returns-then-there-key
 returns-then-there-key c =
-    let s = c in
-    (place_held s.args.count s.args.key s.args.contents.now _ c.find-index.ensures c.if-index-count.true _ _ c.key_at-there.ensures c.if-there-key.true c.reports_at-reports.ensures.0, c.reports_at-reports.ensures.1)
+    (place_held c.args.count c.args.key c.args.contents.now _ c.find-index.ensures c.if-index-count.true _ _ c.key_at-there.ensures c.if-there-key.true c.reports_at-reports.ensures.0, c.reports_at-reports.ensures.1)
 
 pub returns-else-there-key : goal.returns-else-there-key
 returns-else-there-key c =
-    let s = c in
-    (place_other s.args.count s.args.key s.args.contents.now _ c.find-index.ensures c.if-index-count.true _ c.key_at-there.ensures c.if-there-key.false, omega arith)
+    (place_other c.args.count c.args.key c.args.contents.now _ c.find-index.ensures c.if-index-count.true _ c.key_at-there.ensures c.if-there-key.false, omega arith)
 
 pub returns-else-index-count : goal.returns-else-index-count
 returns-else-index-count c =
-    let s = c in
-    (place_past s.args.count s.args.key s.args.contents.now _ c.find-index.ensures c.if-index-count.false, omega arith)
+    (place_past c.args.count c.args.key c.args.contents.now _ c.find-index.ensures c.if-index-count.false, omega arith)

@@ -19,18 +19,17 @@ put_body-rest_at-requires c =
 
 pub returns : goal.returns
 returns c =
-    let s = c in
-    let t = s.args.bodies.now in
-    let h = s.args.share.now in
-    let o = take (s.args.to - s.args.from) (drop s.args.from t) in
+    let t = c.args.bodies.now in
+    let h = c.args.share.now in
+    let o = take (c.args.to - c.args.from) (drop c.args.from t) in
     let a = c.put_bytes-body_at.ensures in
     let b = c.put_body-rest_at.ensures in
     let d = c.put_bytes.ensures in
-    let f = front_is s.args.from t in
-    let g = rest_is t s.args.to in
-    three_pasted s.args.at s.args.row.now (omega (arith, s.requires.from_le_to, s.requires.to_in_bounds, s.requires.bodies_len)) (take s.args.from t) (element_bytes (body_with o h)) (drop s.args.to t) _ _ _ _ _ _
-    (a.0 ∙ ap (λ (l : List ℕ). pasted s.args.at l s.args.row.now) f)
-    (a.1 ∙ ap (λ (l : List ℕ). s.args.at + length l) f)
+    let f = front_is c.args.from t in
+    let g = rest_is t c.args.to in
+    three_pasted c.args.at c.args.row.now (omega (arith, c.requires.from_le_to, c.requires.to_in_bounds, c.requires.bodies_len)) (take c.args.from t) (element_bytes (body_with o h)) (drop c.args.to t) _ _ _ _ _ _
+    (a.0 ∙ ap (λ (l : List ℕ). pasted c.args.at l c.args.row.now) f)
+    (a.1 ∙ ap (λ (l : List ℕ). c.args.at + length l) f)
     b.0
     (b.1 ∙ ap (λ (k : ℕ). c.put_bytes-body_at.result + k) (sym (body_long o h)))
     (d.0 ∙ ap (λ (l : List ℕ). pasted c.put_body-rest_at.result l c.put_body-rest_at.new.row) g)

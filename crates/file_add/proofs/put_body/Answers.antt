@@ -10,11 +10,10 @@ returns-then-old-eq0 c =
 
 pub put_sums-requires : goal.put_sums-requires
 put_sums-requires c =
-    let s = c in
-    let b = s.requires.len c.if-old-eq0.false in
+    let b = c.requires.len c.if-old-eq0.false in
     record {
-      share_in_bounds = (s.requires.share_in_bounds.0, b.0);
-      below = (b.1, s.requires.share_in_bounds.1);
+      share_in_bounds = (c.requires.share_in_bounds.0, b.0);
+      below = (b.1, c.requires.share_in_bounds.1);
     }
 
 pub returns : goal.returns

@@ -12,22 +12,21 @@ use Rattle.file_add.proofs.put_contents.Goals as goal
 
 pub returns : goal.returns
 returns c =
-    let s = c in
-    let i = 12 * s.args.index in
-    let j = 12 * s.args.next in
-    let t = s.args.contents.now in
+    let i = 12 * c.args.index in
+    let j = 12 * c.args.next in
+    let t = c.args.contents.now in
     let a = c.put_bytes-key_at.ensures in
     let b = c.put_bytes-reports_at.ensures in
     let n = c.put_number-rest_at.ensures in
     let d = c.put_bytes.ensures in
     let f = front_is i t in
     let g = rest_is t j in
-    four_pasted s.args.at s.args.row.now (omega (arith, s.requires.index_le_next, s.requires.key_len)) (take i t) s.args.key.now (to_bytes 4 s.args.reports) (drop j t) _ _ _ _ _ _ _ _
-    (a.0 ∙ ap (λ (l : List ℕ). pasted s.args.at l s.args.row.now) f)
-    (a.1 ∙ ap (λ (l : List ℕ). s.args.at + length l) f)
+    four_pasted c.args.at c.args.row.now (omega (arith, c.requires.index_le_next, c.requires.key_len)) (take i t) c.args.key.now (to_bytes 4 c.args.reports) (drop j t) _ _ _ _ _ _ _ _
+    (a.0 ∙ ap (λ (l : List ℕ). pasted c.args.at l c.args.row.now) f)
+    (a.1 ∙ ap (λ (l : List ℕ). c.args.at + length l) f)
     b.0
     b.1
     n.0
-    (n.1 ∙ ap (λ (k : ℕ). c.put_bytes-reports_at.result + k) (sym (length_to_bytes 4 s.args.reports)))
+    (n.1 ∙ ap (λ (k : ℕ). c.put_bytes-reports_at.result + k) (sym (length_to_bytes 4 c.args.reports)))
     (d.0 ∙ ap (λ (l : List ℕ). pasted c.put_number-rest_at.result l c.put_number-rest_at.new.row) g)
     (d.1 ∙ ap (λ (l : List ℕ). c.put_number-rest_at.result + length l) g)

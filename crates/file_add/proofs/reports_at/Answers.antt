@@ -4,5 +4,4 @@ use Rattle.file_add.proofs.reports_at.Goals as goal
 
 pub returns : goal.returns
 returns c =
-    let s = c in
-    (reports_four s.args.contents.now s.args.i _ s.requires c.number4.ensures.0, c.number4.ensures.1)
+    (reports_four c.args.contents.now c.args.i _ c.requires c.number4.ensures.0, c.number4.ensures.1)

@@ -87,8 +87,7 @@ module _ (a : After-after-next) where
 
 pub after-next-requires : goal.after-next-requires
 after-next-requires c =
-    let s = c in
-    omega (arith, few s.args.dimension s.args.key.now s.args.old.now s.args.share.now (length s.args.second.now) s.requires c.count_of-count.result c.count_of-count.ensures.0 _ c.place_in-place.ensures.0, index_small s.args.dimension s.args.key.now s.args.old.now s.args.share.now (length s.args.second.now) s.requires c.count_of-count.result c.count_of-count.ensures.0 _ c.place_in-place.ensures.0)
+    omega (arith, few c.args.dimension c.args.key.now c.args.old.now c.args.share.now (length c.args.second.now) c.requires c.count_of-count.result c.count_of-count.ensures.0 _ c.place_in-place.ensures.0, index_small c.args.dimension c.args.key.now c.args.old.now c.args.share.now (length c.args.second.now) c.requires c.count_of-count.result c.count_of-count.ensures.0 _ c.place_in-place.ensures.0)
 
 pub overflow_sub-count : goal.overflow_sub-count
 overflow_sub-count c = omega (arith, known_order c.before.before)
@@ -98,11 +97,10 @@ slice_bounds-put_contents-end c = omega (arith, known_start c.before.before.befo
 
 pub put_contents-bodies_at-requires : goal.put_contents-bodies_at-requires
 put_contents-bodies_at-requires c =
-    let a = c in
-    let o = known_order a.before.before.before.before.before.before.before.before in
+    let o = known_order c.before.before.before.before.before.before.before.before in
     record {
-      index_le_next = (o.0, omega (arith, o, known_C a.before.before.before.before.before.before.before.before));
-      key_len = ((s a.before.before.before.before.before.before.before.before).requires.key_long, omega (arith, contents_room a.before.before.before.before.before.before.before.before, c.put_header-at.ensures.1, c.put_header-at.auto.row));
+      index_le_next = (o.0, omega (arith, o, known_C c.before.before.before.before.before.before.before.before));
+      key_len = ((s c.before.before.before.before.before.before.before.before).requires.key_long, omega (arith, contents_room c.before.before.before.before.before.before.before.before, c.put_header-at.ensures.1, c.put_header-at.auto.row));
     }
 
 pub slice_bounds-put_bodies-count : goal.slice_bounds-put_bodies-count
@@ -125,19 +123,17 @@ overflow_mul-unit-4 c = omega (arith, known_small c.before.before.before.before.
 
 pub put_bodies-requires : goal.put_bodies-requires
 put_bodies-requires c =
-    let a = c in
-    let q = known_products a.before.before.before.before.before.before.before.before.before.before.before.before.before in
-    let w = c.put_contents-bodies_at.ensures.1 ∙ ap (λ (k : ℕ). k + length (contents_with (C a.before.before.before.before.before.before.before.before.before.before.before.before.before) (s a.before.before.before.before.before.before.before.before.before.before.before.before.before).args.key.now (a.place_in-place.result.reports + 1) (i a.before.before.before.before.before.before.before.before.before.before.before.before.before) (j a.before.before.before.before.before.before.before.before.before.before.before.before.before))) c.put_header-at.ensures.1 in
+    let q = known_products c.before.before.before.before.before.before.before.before.before.before.before.before.before in
+    let w = c.put_contents-bodies_at.ensures.1 ∙ ap (λ (k : ℕ). k + length (contents_with (C c.before.before.before.before.before.before.before.before.before.before.before.before.before) (s c.before.before.before.before.before.before.before.before.before.before.before.before.before).args.key.now (c.place_in-place.result.reports + 1) (i c.before.before.before.before.before.before.before.before.before.before.before.before.before) (j c.before.before.before.before.before.before.before.before.before.before.before.before.before))) c.put_header-at.ensures.1 in
     record {
-      from_le_to = (omega (arith, q), omega (arith, q, known_R a.before.before.before.before.before.before.before.before.before.before.before.before.before));
-      to_in_bounds = (omega (arith, bodies_room a.before.before.before.before.before.before.before.before.before.before.before.before.before c.put_contents-bodies_at.result w, c.put_contents-bodies_at.auto.row, c.put_header-at.auto.row), (s a.before.before.before.before.before.before.before.before.before.before.before.before.before).requires.share_below);
-      bodies_len = known_part a.before.before.before.before.before.before.before.before.before.before.before.before.before;
+      from_le_to = (omega (arith, q), omega (arith, q, known_R c.before.before.before.before.before.before.before.before.before.before.before.before.before));
+      to_in_bounds = (omega (arith, bodies_room c.before.before.before.before.before.before.before.before.before.before.before.before.before c.put_contents-bodies_at.result w, c.put_contents-bodies_at.auto.row, c.put_header-at.auto.row), (s c.before.before.before.before.before.before.before.before.before.before.before.before.before).requires.share_below);
+      bodies_len = known_part c.before.before.before.before.before.before.before.before.before.before.before.before.before;
     }
 
 pub returns : goal.returns
 returns c =
-    let a = c in
-    let old = below_all 256 (s a.before.before.before.before.before.before.before.before.before.before.before.before.before.before.before.before).args.old.now (λ k _. (c.shared_slice_known-2-1.given k).fits) in
-    let key = below_all 256 (s a.before.before.before.before.before.before.before.before.before.before.before.before.before.before.before.before).args.key.now (λ k _. (c.shared_slice_known-1.given k).fits) in
-    added_written (d a.before.before.before.before.before.before.before.before.before.before.before.before.before.before.before.before) (s a.before.before.before.before.before.before.before.before.before.before.before.before.before.before.before.before).args.key.now (s a.before.before.before.before.before.before.before.before.before.before.before.before.before.before.before.before).args.old.now (s a.before.before.before.before.before.before.before.before.before.before.before.before.before.before.before.before).args.share.now (length (s a.before.before.before.before.before.before.before.before.before.before.before.before.before.before.before.before).args.second.now) (s a.before.before.before.before.before.before.before.before.before.before.before.before.before.before.before.before).requires (n a.before.before.before.before.before.before.before.before.before.before.before.before.before.before.before.before) a.count_of-count.ensures.0 _ a.place_in-place.ensures.0 (j a.before.before.before.before.before.before.before.before.before.before.before.before.before.before.before.before) a.after-next.ensures old key
-    (s a.before.before.before.before.before.before.before.before.before.before.before.before.before.before.before.before).args.second.now _ _ _ _ _ _ c.put_header-at.ensures.0 c.put_header-at.ensures.1 c.put_contents-bodies_at.ensures.0 c.put_contents-bodies_at.ensures.1 c.put_bodies.ensures.0 c.put_bodies.ensures.1
+    let old = below_all 256 (s c.before.before.before.before.before.before.before.before.before.before.before.before.before.before.before.before).args.old.now (λ k _. (c.shared_slice_known-2-1.given k).fits) in
+    let key = below_all 256 (s c.before.before.before.before.before.before.before.before.before.before.before.before.before.before.before.before).args.key.now (λ k _. (c.shared_slice_known-1.given k).fits) in
+    added_written (d c.before.before.before.before.before.before.before.before.before.before.before.before.before.before.before.before) (s c.before.before.before.before.before.before.before.before.before.before.before.before.before.before.before.before).args.key.now (s c.before.before.before.before.before.before.before.before.before.before.before.before.before.before.before.before).args.old.now (s c.before.before.before.before.before.before.before.before.before.before.before.before.before.before.before.before).args.share.now (length (s c.before.before.before.before.before.before.before.before.before.before.before.before.before.before.before.before).args.second.now) (s c.before.before.before.before.before.before.before.before.before.before.before.before.before.before.before.before).requires (n c.before.before.before.before.before.before.before.before.before.before.before.before.before.before.before.before) c.count_of-count.ensures.0 _ c.place_in-place.ensures.0 (j c.before.before.before.before.before.before.before.before.before.before.before.before.before.before.before.before) c.after-next.ensures old key
+    (s c.before.before.before.before.before.before.before.before.before.before.before.before.before.before.before.before).args.second.now _ _ _ _ _ _ c.put_header-at.ensures.0 c.put_header-at.ensures.1 c.put_contents-bodies_at.ensures.0 c.put_contents-bodies_at.ensures.1 c.put_bodies.ensures.0 c.put_bodies.ensures.1

@@ -17,14 +17,11 @@ here total bs i k h e =
 
 pub loop-i-init : goal.loop-i-init
 loop-i-init c =
-    let s = c in
-    (omega arith, hold_none s.args.most s.args.keys.now s.args.counts.now s.requires.2 s.requires.0 s.requires.1, refl)
+    (omega arith, hold_none c.args.most c.args.keys.now c.args.counts.now c.requires.2 c.requires.0 c.requires.1, refl)
 
 pub key_number-key-requires : goal.key_number-key-requires
 key_number-key-requires c =
-    let l = c in
-    let s = c in
-    omega (arith, part_long s.args.list.now (8 * l.loop-i.i) 8 (omega arith))
+    omega (arith, part_long c.args.list.now (8 * c.loop-i.i) 8 (omega arith))
 
 pub take_key-next-requires : goal.take_key-next-requires
 take_key-next-requires c = c.loop-i.invariant.1
@@ -37,20 +34,16 @@ shape_of-counts-then-answer-ne0 c = omega (arith, c.take_key-next.auto.counts, c
 
 pub returns-then-answer-ne0 : goal.returns-then-answer-ne0
 returns-then-answer-ne0 c =
-    let l = c in
-    let s = c in
-    let list = s.args.list.now in
+    let list = c.args.list.now in
     let t = length list / 8 in
-    (run_stops s.args.most (numbers_in t list) l.loop-i.keys l.loop-i.counts l.loop-i.n l.loop-i.i c.key_number-key.result (omega (arith, length_numbers t list, c.before.before.before.before.before.before.before.before.before.before.before.before)) (here t list l.loop-i.i _ (omega (arith, c.before.before.before.before.before.before.before.before.before.before.before.before)) c.key_number-key.ensures) l.loop-i.invariant.2 _ _ _ _ c.take_key-next.ensures c.if-answer-ne0.true, omega arith)
+    (run_stops c.args.most (numbers_in t list) c.loop-i.keys c.loop-i.counts c.loop-i.n c.loop-i.i c.key_number-key.result (omega (arith, length_numbers t list, c.before.before.before.before.before.before.before.before.before.before.before.before)) (here t list c.loop-i.i _ (omega (arith, c.before.before.before.before.before.before.before.before.before.before.before.before)) c.key_number-key.ensures) c.loop-i.invariant.2 _ _ _ _ c.take_key-next.ensures c.if-answer-ne0.true, omega arith)
 
 pub loop-i-preserved : goal.loop-i-preserved
 loop-i-preserved c =
-    let l = c in
-    let s = c in
-    let list = s.args.list.now in
+    let list = c.args.list.now in
     let t = length list / 8 in
     let k = c.take_key-next.ensures in
-    (omega (arith, c.before.before.before.before.before.before.before.before.before.before.before.before), k.holding c.if-answer-ne0.false, run_next s.args.most (numbers_in t list) l.loop-i.keys l.loop-i.counts l.loop-i.n l.loop-i.i c.key_number-key.result (omega (arith, length_numbers t list, c.before.before.before.before.before.before.before.before.before.before.before.before)) (here t list l.loop-i.i _ (omega (arith, c.before.before.before.before.before.before.before.before.before.before.before.before)) c.key_number-key.ensures) l.loop-i.invariant.2 _ _ _ _ k c.if-answer-ne0.false)
+    (omega (arith, c.before.before.before.before.before.before.before.before.before.before.before.before), k.holding c.if-answer-ne0.false, run_next c.args.most (numbers_in t list) c.loop-i.keys c.loop-i.counts c.loop-i.n c.loop-i.i c.key_number-key.result (omega (arith, length_numbers t list, c.before.before.before.before.before.before.before.before.before.before.before.before)) (here t list c.loop-i.i _ (omega (arith, c.before.before.before.before.before.before.before.before.before.before.before.before)) c.key_number-key.ensures) c.loop-i.invariant.2 _ _ _ _ k c.if-answer-ne0.false)
 
 pub shape_of-keys : goal.shape_of-keys
 shape_of-keys c = omega (arith, c.loop-i.invariant.1.keys_long, c.requires.0)
@@ -60,8 +53,6 @@ shape_of-counts c = omega (arith, c.loop-i.invariant.1.counts_long, c.requires.1
 
 pub returns : goal.returns
 returns c =
-    let l = c in
-    let s = c in
-    let list = s.args.list.now in
+    let list = c.args.list.now in
     let t = length list / 8 in
-    (run_end s.args.most (numbers_in t list) l.loop-i.keys l.loop-i.counts l.loop-i.n l.loop-i.i (omega (arith, length_numbers t list)) l.loop-i.invariant.1 l.loop-i.invariant.2, l.loop-i.invariant.1.few)
+    (run_end c.args.most (numbers_in t list) c.loop-i.keys c.loop-i.counts c.loop-i.n c.loop-i.i (omega (arith, length_numbers t list)) c.loop-i.invariant.1 c.loop-i.invariant.2, c.loop-i.invariant.1.few)

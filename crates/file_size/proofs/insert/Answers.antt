@@ -9,15 +9,11 @@ loop-at-init c = moving_start c.args.i c.args.n c.args.x c.args.row.now c.requir
 
 pub loop-at-preserved : goal.loop-at-preserved
 loop-at-preserved c =
-    let l = c in
-    let s = l in
-    moving_next s.args.i s.args.n s.args.x s.args.row.now l.loop-at.row l.loop-at.carried l.loop-at.at s.requires.0 s.requires.1 l.loop-at.invariant (omega arith)
+    moving_next c.args.i c.args.n c.args.x c.args.row.now c.loop-at.row c.loop-at.carried c.loop-at.at c.requires.0 c.requires.1 c.loop-at.invariant (omega arith)
 
 pub shape_of-row : goal.shape_of-row
 shape_of-row c = c.loop-at.invariant.same
 
 pub returns : goal.returns
 returns c =
-    let l = c in
-    let s = l in
-    moving_end s.args.i s.args.n s.args.x s.args.row.now l.loop-at.row l.loop-at.carried l.loop-at.at s.requires.0 s.requires.1 l.loop-at.invariant (omega arith)
+    moving_end c.args.i c.args.n c.args.x c.args.row.now c.loop-at.row c.loop-at.carried c.loop-at.at c.requires.0 c.requires.1 c.loop-at.invariant (omega arith)

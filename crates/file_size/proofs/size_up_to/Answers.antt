@@ -5,20 +5,16 @@ use Rattle.file_size.proofs.size_up_to.Goals as goal
 
 pub returns-then-inputs-ne0 : goal.returns-then-inputs-ne0
 returns-then-inputs-ne0 c =
-    let s = c in
-    size_refused s.args.most s.args.param s.args.keys.now _ c.check_list-inputs.ensures c.if-inputs-ne0.true
+    size_refused c.args.most c.args.param c.args.keys.now _ c.check_list-inputs.ensures c.if-inputs-ne0.true
 
 pub returns-then-answer-ne0 : goal.returns-then-answer-ne0
 returns-then-answer-ne0 c =
-    let s = c in
-    size_stops s.args.most s.args.param s.args.keys.now _ c.check_list-inputs.ensures c.if-inputs-ne0.false _ _ c.count_keys-counted.ensures.0 c.if-answer-ne0.true
+    size_stops c.args.most c.args.param c.args.keys.now _ c.check_list-inputs.ensures c.if-inputs-ne0.false _ _ c.count_keys-counted.ensures.0 c.if-answer-ne0.true
 
 pub file_len-requires : goal.file_len-requires
 file_len-requires c =
-    let s = c in
-    (size_dimension s.args.most s.args.param s.args.keys.now _ c.check_list-inputs.ensures c.if-inputs-ne0.false _ _ c.count_keys-counted.ensures.0, omega (arith, c.count_keys-counted.ensures.1))
+    (size_dimension c.args.most c.args.param c.args.keys.now _ c.check_list-inputs.ensures c.if-inputs-ne0.false _ _ c.count_keys-counted.ensures.0, omega (arith, c.count_keys-counted.ensures.1))
 
 pub returns : goal.returns
 returns c =
-    let s = c in
-    size_done s.args.most s.args.param s.args.keys.now _ c.check_list-inputs.ensures c.if-inputs-ne0.false _ _ c.count_keys-counted.ensures.0 c.if-answer-ne0.false _ c.file_len.ensures
+    size_done c.args.most c.args.param c.args.keys.now _ c.check_list-inputs.ensures c.if-inputs-ne0.false _ _ c.count_keys-counted.ensures.0 c.if-answer-ne0.false _ c.file_len.ensures

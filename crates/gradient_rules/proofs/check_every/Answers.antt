@@ -6,6 +6,4 @@ use Rattle.gradient_rules.proofs.check_every.Goals as goal
 
 pub returns-then-count_in_range-results : goal.returns-then-count_in_range-results
 returns-then-count_in_range-results c =
-    let n = c in
-    let s = n in
-    c.accepted.ensures ∙ every_counted p64 s.args.bound 0 s.args.results.now (sym n.count_in_range.ensures ∙ c.if-count_in_range-results.true)
+    c.accepted.ensures ∙ every_counted p64 c.args.bound 0 c.args.results.now (sym c.count_in_range.ensures ∙ c.if-count_in_range-results.true)

@@ -12,6 +12,5 @@ in_turn a b c is e g = is ∙ ap₂ first e g ∙ first_assoc a b c
 
 pub returns : goal.returns
 returns c =
-    let s = c in
-    let a = s.args in
+    let a = c.args in
     in_turn (true_sq_norm_rule a.true_sq_norm (words_of a.norm) a.sq_norm_bound) (sq_norm_rule a.v a.sq_norm_bound) _ c.or.ensures c.check_norm-of_norm.ensures c.check_results-of_tests.ensures

@@ -8,11 +8,9 @@ use Rattle.gradient_rules.proofs.check_results.Goals as goal
 pub returns-in-Every : goal.returns-in-Every
 unfolding range_rule
 returns-in-Every c =
-    let s = c in
-    c.check_every.ensures ∙ sym (ap (λ (r : WrTestRule). range_rule r p64 s.args.bound s.args.successes s.args.results.now) c.in-Every.is)
+    c.check_every.ensures ∙ sym (ap (λ (r : WrTestRule). range_rule r p64 c.args.bound c.args.successes c.args.results.now) c.in-Every.is)
 
 pub returns-in-Enough : goal.returns-in-Enough
 unfolding range_rule
 returns-in-Enough c =
-    let s = c in
-    c.check_enough.ensures ∙ sym (ap (λ (r : WrTestRule). range_rule r p64 s.args.bound s.args.successes s.args.results.now) c.in-Enough.is)
+    c.check_enough.ensures ∙ sym (ap (λ (r : WrTestRule). range_rule r p64 c.args.bound c.args.successes c.args.results.now) c.in-Enough.is)

@@ -17,12 +17,8 @@ overflow_add-count c = omega (arith, one_at_most c.in_range.result)
 
 pub loop-t-preserved : goal.loop-t-preserved
 loop-t-preserved c =
-    let l = c in
-    let s = l in
-    (omega arith, omega (arith, one_at_most c.in_range.result), count_next p64 s.args.bound s.args.results.now l.loop-t.t l.loop-t.count l.loop-t.invariant.2 (omega arith) c.in_range.result c.in_range.ensures)
+    (omega arith, omega (arith, one_at_most c.in_range.result), count_next p64 c.args.bound c.args.results.now c.loop-t.t c.loop-t.count c.loop-t.invariant.2 (omega arith) c.in_range.result c.in_range.ensures)
 
 pub returns : goal.returns
 returns c =
-    let l = c in
-    let s = l in
-    count_end p64 s.args.bound s.args.results.now l.loop-t.t l.loop-t.count l.loop-t.invariant.2 (omega arith)
+    count_end p64 c.args.bound c.args.results.now c.loop-t.t c.loop-t.count c.loop-t.invariant.2 (omega arith)

@@ -20,15 +20,11 @@ overflow_add-count c = omega (arith, c.refused-count.ensures.0)
 
 pub loop-i-preserved : goal.loop-i-preserved
 loop-i-preserved c =
-    let l = c in
-    let s = l in
     let q = c.refused-count.ensures in
-    let xs = s.args.gradient.now in
-    let f = s.args.frac_bits in
-    (omega arith, omega (arith, q.0), λ z. coordinates_next floor_limit64 f nan xs l.loop-i.i (omega arith) (l.loop-i.invariant.2 (omega arith)) (coordinate_rule floor_limit64 (get_or xs l.loop-i.i nan) f) refl (q.1 (omega arith)))
+    let xs = c.args.gradient.now in
+    let f = c.args.frac_bits in
+    (omega arith, omega (arith, q.0), λ z. coordinates_next floor_limit64 f nan xs c.loop-i.i (omega arith) (c.loop-i.invariant.2 (omega arith)) (coordinate_rule floor_limit64 (get_or xs c.loop-i.i nan) f) refl (q.1 (omega arith)))
 
 pub returns : goal.returns
 returns c =
-    let l = c in
-    let s = l in
-    λ z. coordinates_end floor_limit64 s.args.frac_bits s.args.gradient.now l.loop-i.i (omega arith) (l.loop-i.invariant.2 z)
+    λ z. coordinates_end floor_limit64 c.args.frac_bits c.args.gradient.now c.loop-i.i (omega arith) (c.loop-i.invariant.2 z)

@@ -23,8 +23,7 @@ in_range-requires c = omega arith
 
 pub returns-then-not-in_range : goal.returns-then-not-in_range
 returns-then-not-in_range c =
-    let l = c in
-    every_stop p64 l.args.bound l.args.results.now l.loop-t.t (omega arith) l.loop-t.invariant.1 _ c.in_range.ensures (ap not c.if-not-in_range.true)
+    every_stop p64 c.args.bound c.args.results.now c.loop-t.t (omega arith) c.loop-t.invariant.1 _ c.in_range.ensures (ap not c.if-not-in_range.true)
 
 pub overflow_add-t : goal.overflow_add-t
 overflow_add-t c = omega arith
@@ -34,13 +33,11 @@ loop-t-smaller c = omega arith
 
 pub loop-t-preserved : goal.loop-t-preserved
 loop-t-preserved c =
-    let l = c in
-    (omega arith, every_next p64 l.args.bound l.args.results.now l.loop-t.t (omega arith) l.loop-t.invariant.1 _ c.in_range.ensures (ap not c.if-not-in_range.false))
+    (omega arith, every_next p64 c.args.bound c.args.results.now c.loop-t.t (omega arith) c.loop-t.invariant.1 _ c.in_range.ensures (ap not c.if-not-in_range.false))
 
 pub accepted-requires : goal.accepted-requires
 accepted-requires c = omega arith
 
 pub returns : goal.returns
 returns c =
-    let l = c in
-    c.accepted.ensures ∙ every_end p64 l.args.bound l.args.results.now l.loop-t.t (omega arith) l.loop-t.invariant.1
+    c.accepted.ensures ∙ every_end p64 c.args.bound c.args.results.now c.loop-t.t (omega arith) c.loop-t.invariant.1

@@ -22,10 +22,7 @@ check_coordinate-answer-requires c = c.requires
 
 pub returns-then-answer-ne0 : goal.returns-then-answer-ne0
 returns-then-answer-ne0 c =
-    let k = c in
-    let l = k in
-    let s = l in
-    coordinates_stop floor_limit128 s.args.frac_bits nan s.args.gradient.now l.loop-i.i (omega arith) l.loop-i.invariant.1 k.check_coordinate-answer.result k.check_coordinate-answer.ensures c.if-answer-ne0.true
+    coordinates_stop floor_limit128 c.args.frac_bits nan c.args.gradient.now c.loop-i.i (omega arith) c.loop-i.invariant.1 c.check_coordinate-answer.result c.check_coordinate-answer.ensures c.if-answer-ne0.true
 
 pub overflow_add-i : goal.overflow_add-i
 overflow_add-i c = omega arith
@@ -35,16 +32,11 @@ loop-i-smaller c = omega arith
 
 pub loop-i-preserved : goal.loop-i-preserved
 loop-i-preserved c =
-    let k = c in
-    let l = k in
-    let s = l in
-    (omega arith, coordinates_next floor_limit128 s.args.frac_bits nan s.args.gradient.now l.loop-i.i (omega arith) l.loop-i.invariant.1 k.check_coordinate-answer.result k.check_coordinate-answer.ensures c.if-answer-ne0.false)
+    (omega arith, coordinates_next floor_limit128 c.args.frac_bits nan c.args.gradient.now c.loop-i.i (omega arith) c.loop-i.invariant.1 c.check_coordinate-answer.result c.check_coordinate-answer.ensures c.if-answer-ne0.false)
 
 pub accepted-requires : goal.accepted-requires
 accepted-requires c = omega arith
 
 pub returns : goal.returns
 returns c =
-    let l = c in
-    let s = l in
-    c.accepted.ensures ∙ coordinates_end floor_limit128 s.args.frac_bits s.args.gradient.now l.loop-i.i (omega arith) l.loop-i.invariant.1
+    c.accepted.ensures ∙ coordinates_end floor_limit128 c.args.frac_bits c.args.gradient.now c.loop-i.i (omega arith) c.loop-i.invariant.1

@@ -19,47 +19,38 @@ here n bs i r h e =
 
 pub loop-i-init : goal.loop-i-init
 loop-i-init c =
-    let s = c in
-    let n = s.args.count in
-    (omega arith, seen_none p64 (elements_in n s.args.left.now), seen_none p64 (elements_in n s.args.right.now))
+    let n = c.args.count in
+    (omega arith, seen_none p64 (elements_in n c.args.left.now), seen_none p64 (elements_in n c.args.right.now))
 
 pub number8-requires : goal.number8-requires
 number8-requires c =
-    let l = c in
-    part_long l.args.left.now (8 * l.loop-i.i) 8 (omega arith)
+    part_long c.args.left.now (8 * c.loop-i.i) 8 (omega arith)
 
 pub number8-requires-in-loop-i : goal.number8-requires-in-loop-i
 number8-requires-in-loop-i c =
-    let l = c in
-    part_long l.args.right.now (8 * l.loop-i.i) 8 (omega arith)
+    part_long c.args.right.now (8 * c.loop-i.i) 8 (omega arith)
 
 pub loop-i-preserved : goal.loop-i-preserved
 loop-i-preserved c =
-    let l = c in
-    let s = l in
-    let n = s.args.count in
-    let xs = s.args.left.now in
-    let ys = s.args.right.now in
+    let n = c.args.count in
+    let xs = c.args.left.now in
+    let ys = c.args.right.now in
     let e = c.or_carry-in_left.ensures in
     let f = c.or_carry-in_right.ensures in (
       omega arith,
-      seen_next p64 (elements_in n xs) l.loop-i.i l.loop-i.in_left _ _ (omega (arith, length-elements_in n xs)) (here n xs l.loop-i.i _ (omega arith) c.number8.ensures) e.seen_bound e.upper_bound l.loop-i.invariant.1,
-      seen_next p64 (elements_in n ys) l.loop-i.i l.loop-i.in_right _ _ (omega (arith, length-elements_in n ys)) (here n ys l.loop-i.i _ (omega arith) c.number8-in-loop-i.ensures) f.seen_bound f.upper_bound l.loop-i.invariant.2,
+      seen_next p64 (elements_in n xs) c.loop-i.i c.loop-i.in_left _ _ (omega (arith, length-elements_in n xs)) (here n xs c.loop-i.i _ (omega arith) c.number8.ensures) e.seen_bound e.upper_bound c.loop-i.invariant.1,
+      seen_next p64 (elements_in n ys) c.loop-i.i c.loop-i.in_right _ _ (omega (arith, length-elements_in n ys)) (here n ys c.loop-i.i _ (omega arith) c.number8-in-loop-i.ensures) f.seen_bound f.upper_bound c.loop-i.invariant.2,
     )
 
 pub returns-then-in_left : goal.returns-then-in_left
 returns-then-in_left c =
-    let l = c in
-    let s = l in
-    let n = s.args.count in
-    let xs = s.args.left.now in
-    let ys = s.args.right.now in
-    both_carry l.loop-i.in_left l.loop-i.in_right (elements_in n xs) (elements_in n ys) (seen_all p64 (elements_in n xs) l.loop-i.i l.loop-i.in_left (omega (arith, length-elements_in n xs)) l.loop-i.invariant.1) (seen_all p64 (elements_in n ys) l.loop-i.i l.loop-i.in_right (omega (arith, length-elements_in n ys)) l.loop-i.invariant.2) (omega arith)
+    let n = c.args.count in
+    let xs = c.args.left.now in
+    let ys = c.args.right.now in
+    both_carry c.loop-i.in_left c.loop-i.in_right (elements_in n xs) (elements_in n ys) (seen_all p64 (elements_in n xs) c.loop-i.i c.loop-i.in_left (omega (arith, length-elements_in n xs)) c.loop-i.invariant.1) (seen_all p64 (elements_in n ys) c.loop-i.i c.loop-i.in_right (omega (arith, length-elements_in n ys)) c.loop-i.invariant.2) (omega arith)
 
 pub returns : goal.returns
 returns c =
-    let l = c in
-    let s = l in
-    let n = s.args.count in
-    let xs = s.args.left.now in
-    left_carries l.loop-i.in_left l.loop-i.in_right (elements_in n xs) (elements_in n s.args.right.now) (seen_all p64 (elements_in n xs) l.loop-i.i l.loop-i.in_left (omega (arith, length-elements_in n xs)) l.loop-i.invariant.1) (omega arith)
+    let n = c.args.count in
+    let xs = c.args.left.now in
+    left_carries c.loop-i.in_left c.loop-i.in_right (elements_in n xs) (elements_in n c.args.right.now) (seen_all p64 (elements_in n xs) c.loop-i.i c.loop-i.in_left (omega (arith, length-elements_in n xs)) c.loop-i.invariant.1) (omega arith)

@@ -5,15 +5,12 @@ use Rattle.layout.proofs.check_units.Goals as goal
 
 pub returns-then-over-eq0 : goal.returns-then-over-eq0
 returns-then-over-eq0 c =
-    let s = c in
-    c.accepted.ensures ∙ units_right s.args.place s.args.len s.args.unit s.args.count s.requires c.if-whole-count.true c.if-over-eq0.true
+    c.accepted.ensures ∙ units_right c.args.place c.args.len c.args.unit c.args.count c.requires c.if-whole-count.true c.if-over-eq0.true
 
 pub returns-else-over-eq0 : goal.returns-else-over-eq0
 returns-else-over-eq0 c =
-    let s = c in
-    units_over s.args.place s.args.len s.args.unit s.args.count s.requires c.if-over-eq0.false
+    units_over c.args.place c.args.len c.args.unit c.args.count c.requires c.if-over-eq0.false
 
 pub returns-else-whole-count : goal.returns-else-whole-count
 returns-else-whole-count c =
-    let s = c in
-    units_other s.args.place s.args.len s.args.unit s.args.count s.requires c.if-whole-count.false
+    units_other c.args.place c.args.len c.args.unit c.args.count c.requires c.if-whole-count.false

@@ -8,5 +8,4 @@ returns-then-file-lt2 c = (count_none c.args.file.now c.if-file-lt2.true, omega 
 
 pub returns : goal.returns
 returns c =
-    let s = c in
-    (count_two s.args.file.now _ (omega arith) c.number2.ensures.0, c.number2.ensures.1)
+    (count_two c.args.file.now _ (omega arith) c.number2.ensures.0, c.number2.ensures.1)

@@ -5,5 +5,4 @@ use Rattle.layout.proofs.elements_below.Goals as goal
 
 pub returns : goal.returns
 returns c =
-    let s = c in
-    halves_in p64 s.args.count s.args.bytes.now _ c.both_below.ensures
+    halves_in p64 c.args.count c.args.bytes.now _ c.both_below.ensures

@@ -10,21 +10,18 @@ returns-then-file-lt6 c = file_short p64 c.args.dimension c.args.file.now c.if-f
 
 pub returns-then-written-dimension : goal.returns-then-written-dimension
 returns-then-written-dimension c =
-    let s = c in
-    file_other p64 s.args.dimension s.args.file.now (omega arith) _ (dimension_four s.args.file.now _ (omega arith) c.number4-written.ensures.0) c.if-written-dimension.true
+    file_other p64 c.args.dimension c.args.file.now (omega arith) _ (dimension_four c.args.file.now _ (omega arith) c.number4-written.ensures.0) c.if-written-dimension.true
 
 pub file_len-expected-requires : goal.file_len-expected-requires
 file_len-expected-requires c = (c.requires, c.count_of-count.ensures.1)
 
 pub returns-then-file-expected : goal.returns-then-file-expected
 returns-then-file-expected c =
-    let s = c in
-    file_size p64 s.args.dimension s.args.file.now (omega arith) (sym (dimension_four s.args.file.now _ (omega arith) c.number4-written.ensures.0) ∙ c.if-written-dimension.false) _ c.count_of-count.ensures.0 (λ e. c.if-file-expected.true (e ∙ sym c.file_len-expected.ensures))
+    file_size p64 c.args.dimension c.args.file.now (omega arith) (sym (dimension_four c.args.file.now _ (omega arith) c.number4-written.ensures.0) ∙ c.if-written-dimension.false) _ c.count_of-count.ensures.0 (λ e. c.if-file-expected.true (e ∙ sym c.file_len-expected.ensures))
 
 pub overflow_mul-dimension : goal.overflow_mul-dimension
 overflow_mul-dimension c = omega (arith, product_fits c.count_of-count.result c.args.dimension c.count_of-count.ensures.1 c.requires)
 
 pub returns : goal.returns
 returns c =
-    let s = c in
-    file_rows p64 s.args.dimension s.args.file.now (omega (arith, c.before.before.before.before.before.before.before.before.before.before.before.before)) (sym (dimension_four s.args.file.now _ (omega (arith, c.before.before.before.before.before.before.before.before.before.before.before.before)) c.number4-written.ensures.0) ∙ c.if-written-dimension.false) _ c.count_of-count.ensures.0 (c.if-file-expected.false ∙ c.file_len-expected.ensures) _ (rows_in_parts p64 s.args.dimension c.count_of-count.result s.args.file.now _ c.is_rows_in.ensures)
+    file_rows p64 c.args.dimension c.args.file.now (omega (arith, c.before.before.before.before.before.before.before.before.before.before.before.before)) (sym (dimension_four c.args.file.now _ (omega (arith, c.before.before.before.before.before.before.before.before.before.before.before.before)) c.number4-written.ensures.0) ∙ c.if-written-dimension.false) _ c.count_of-count.ensures.0 (c.if-file-expected.false ∙ c.file_len-expected.ensures) _ (rows_in_parts p64 c.args.dimension c.count_of-count.result c.args.file.now _ c.is_rows_in.ensures)

@@ -6,15 +6,12 @@ use Rattle.layout.proofs.is_rows_in.Goals as goal
 
 pub returns-then-count-gt1024 : goal.returns-then-count-gt1024
 returns-then-count-gt1024 c =
-    let s = c in
-    rows_many p64 s.args.count s.args.contents.now (elements_in s.args.elements s.args.bodies.now) c.if-count-gt1024.true
+    rows_many p64 c.args.count c.args.contents.now (elements_in c.args.elements c.args.bodies.now) c.if-count-gt1024.true
 
 pub returns-then-rise : goal.returns-then-rise
 returns-then-rise c =
-    let s = c in
-    rows_rise p64 s.args.count s.args.contents.now (elements_in s.args.elements s.args.bodies.now) c.if-count-gt1024.false _ c.keys_rise-rise.ensures c.if-rise.true _ c.elements_below.ensures
+    rows_rise p64 c.args.count c.args.contents.now (elements_in c.args.elements c.args.bodies.now) c.if-count-gt1024.false _ c.keys_rise-rise.ensures c.if-rise.true _ c.elements_below.ensures
 
 pub returns : goal.returns
 returns c =
-    let s = c in
-    rows_fall p64 s.args.count s.args.contents.now (elements_in s.args.elements s.args.bodies.now) c.if-count-gt1024.false _ c.keys_rise-rise.ensures c.if-rise.false
+    rows_fall p64 c.args.count c.args.contents.now (elements_in c.args.elements c.args.bodies.now) c.if-count-gt1024.false _ c.keys_rise-rise.ensures c.if-rise.false

@@ -5,5 +5,4 @@ use Rattle.layout.proofs.put_header.Goals as goal
 
 pub returns : goal.returns
 returns c =
-    let s = c in
-    (header_filled s.args.count s.args.dimension s.args.row.now _ _ _ c.put_number-at.ensures.0 c.put_number-at.ensures.1 c.put_number.ensures.0, omega (arith, c.put_number.ensures.1, c.put_number-at.ensures.1))
+    (header_filled c.args.count c.args.dimension c.args.row.now _ _ _ c.put_number-at.ensures.0 c.put_number-at.ensures.1 c.put_number.ensures.0, omega (arith, c.put_number.ensures.1, c.put_number-at.ensures.1))

@@ -14,22 +14,16 @@ In-loop-t = lts.In-loop tie.the-claims reads.Pre reads.Post goal.the-invariant-l
 -- the bytes of a test are in the stream
 fits : (c : In-loop-t) → c.loop-t.t * c.args.per + c.args.j + c.args.n ≤ length c.args.stream.now
 fits c =
-    let l = c in
-    let s = l in
-    inside (less_entries (2 ^ 64) (drop 0 s.args.tables.now)) s.args.per s.args.j s.args.n s.args.stream.now s.args.low.now l.loop-t.low l.loop-t.t l.loop-t.invariant.0 c.loop-t-test.true s.requires.per_in_bounds.0 s.requires.per_in_bounds.1.0
+    inside (less_entries (2 ^ 64) (drop 0 c.args.tables.now)) c.args.per c.args.j c.args.n c.args.stream.now c.args.low.now c.loop-t.low c.loop-t.t c.loop-t.invariant.0 c.loop-t-test.true c.requires.per_in_bounds.0 c.requires.per_in_bounds.1.0
 
 -- every sum has its place
 in_middle : (c : In-loop-t) → c.loop-t.t < length c.loop-t.middle
 in_middle c =
-    let l = c in
-    let s = l in
-    omega (arith, c.loop-t-test.true, l.loop-t.invariant.0.1, l.loop-t.invariant.1.0.1, s.requires.middle_len.0)
+    omega (arith, c.loop-t-test.true, c.loop-t.invariant.0.1, c.loop-t.invariant.1.0.1, c.requires.middle_len.0)
 
 in_high : (c : In-loop-t) → c.loop-t.t < length c.loop-t.high
 in_high c =
-    let l = c in
-    let s = l in
-    omega (arith, c.loop-t-test.true, l.loop-t.invariant.0.1, l.loop-t.invariant.1.1.1, s.requires.middle_len.1)
+    omega (arith, c.loop-t-test.true, c.loop-t.invariant.0.1, c.loop-t.invariant.1.1.1, c.requires.middle_len.1)
 
 pub loop-t-init : goal.loop-t-init
 loop-t-init c = ((search rules, refl, refl), ((search rules, refl, refl), (search rules, refl, refl)))
@@ -48,11 +42,8 @@ slice_bounds-sums_of-end c = omega (arith, fits c.before)
 
 pub sums_of-sums-requires : goal.sums_of-sums-requires
 sums_of-sums-requires c =
-    let i = c in
-    let l = i in
-    let s = l in
-    let e = bytes_long (less_entries (2 ^ 64) (drop 0 s.args.tables.now)) s.args.per s.args.j s.args.n s.args.stream.now s.args.low.now l.loop-t.low l.loop-t.t l.loop-t.invariant.0 i.loop-t-test.true s.requires.per_in_bounds.0 s.requires.per_in_bounds.1.0 in
-    (rw e s.requires.per_in_bounds.1.1.0, s.requires.per_in_bounds.1.1.1)
+    let e = bytes_long (less_entries (2 ^ 64) (drop 0 c.args.tables.now)) c.args.per c.args.j c.args.n c.args.stream.now c.args.low.now c.loop-t.low c.loop-t.t c.loop-t.invariant.0 c.loop-t-test.true c.requires.per_in_bounds.0 c.requires.per_in_bounds.1.0 in
+    (rw e c.requires.per_in_bounds.1.1.0, c.requires.per_in_bounds.1.1.1)
 
 pub bounds-middle-t : goal.bounds-middle-t
 bounds-middle-t c = in_middle c.before.before.before.before.before.before
@@ -68,18 +59,12 @@ bounds-high-t-in-loop-t c = in_high c.before.before.before.before.before.before.
 
 pub loop-t-preserved : goal.loop-t-preserved
 loop-t-preserved c =
-    let mid = c in
-    let low = mid in
-    let a = low in
-    let i = a in
-    let l = i in
-    let s = l in
-    let first = l.loop-t.t * s.args.per + s.args.j in
-    let bytes = take (first + s.args.n - first) (drop first s.args.stream.now) in (
-      each_next (less_entries (2 ^ 64) (drop 0 s.args.tables.now)) s.args.per s.args.j s.args.n s.args.stream.now s.args.low.now l.loop-t.low l.loop-t.t l.loop-t.invariant.0 i.loop-t-test.true _ (taken_off (2 ^ 64) (lit< tt) (drop 0 s.args.tables.now) bytes _ a.sums_of-sums.result.low _ (search rules) a.sums_of-sums.ensures.low_value low.wrapping_sub_u64.ensures.value),
+    let first = c.loop-t.t * c.args.per + c.args.j in
+    let bytes = take (first + c.args.n - first) (drop first c.args.stream.now) in (
+      each_next (less_entries (2 ^ 64) (drop 0 c.args.tables.now)) c.args.per c.args.j c.args.n c.args.stream.now c.args.low.now c.loop-t.low c.loop-t.t c.loop-t.invariant.0 c.loop-t-test.true _ (taken_off (2 ^ 64) (lit< tt) (drop 0 c.args.tables.now) bytes _ c.sums_of-sums.result.low _ (search rules) c.sums_of-sums.ensures.low_value c.wrapping_sub_u64.ensures.value),
       (
-        each_next (less_entries (2 ^ 64) (drop 256 s.args.tables.now)) s.args.per s.args.j s.args.n s.args.stream.now s.args.middle.now l.loop-t.middle l.loop-t.t l.loop-t.invariant.1.0 (in_middle i.before.before.before.before.before.before.before.before.before) _ (taken_off (2 ^ 64) (lit< tt) (drop 256 s.args.tables.now) bytes _ a.sums_of-sums.result.middle _ (search rules) a.sums_of-sums.ensures.middle_value mid.wrapping_sub_u64-in-loop-t.ensures.value),
-        each_next (less_entries (2 ^ 64) (drop 512 s.args.tables.now)) s.args.per s.args.j s.args.n s.args.stream.now s.args.high.now l.loop-t.high l.loop-t.t l.loop-t.invariant.1.1 (in_high i.before.before.before.before.before.before.before.before.before) _ (taken_off (2 ^ 64) (lit< tt) (drop 512 s.args.tables.now) bytes _ a.sums_of-sums.result.high _ (search rules) a.sums_of-sums.ensures.high_value c.wrapping_sub_u64-in-loop-t-2.ensures.value),
+        each_next (less_entries (2 ^ 64) (drop 256 c.args.tables.now)) c.args.per c.args.j c.args.n c.args.stream.now c.args.middle.now c.loop-t.middle c.loop-t.t c.loop-t.invariant.1.0 (in_middle c.before.before.before.before.before.before.before.before.before) _ (taken_off (2 ^ 64) (lit< tt) (drop 256 c.args.tables.now) bytes _ c.sums_of-sums.result.middle _ (search rules) c.sums_of-sums.ensures.middle_value c.wrapping_sub_u64-in-loop-t.ensures.value),
+        each_next (less_entries (2 ^ 64) (drop 512 c.args.tables.now)) c.args.per c.args.j c.args.n c.args.stream.now c.args.high.now c.loop-t.high c.loop-t.t c.loop-t.invariant.1.1 (in_high c.before.before.before.before.before.before.before.before.before) _ (taken_off (2 ^ 64) (lit< tt) (drop 512 c.args.tables.now) bytes _ c.sums_of-sums.result.high _ (search rules) c.sums_of-sums.ensures.high_value c.wrapping_sub_u64-in-loop-t-2.ensures.value),
       ),
     )
 
@@ -94,10 +79,8 @@ shape_of-high c = c.loop-t.invariant.1.1.1
 
 pub returns : goal.returns
 returns c =
-    let l = c in
-    let s = l in
     record {
-      low_after = each_end (less_entries (2 ^ 64) (drop 0 s.args.tables.now)) s.args.per s.args.j s.args.n s.args.stream.now s.args.low.now l.loop-t.low l.loop-t.t l.loop-t.invariant.0 (omega arith);
-      middle_after = each_end (less_entries (2 ^ 64) (drop 256 s.args.tables.now)) s.args.per s.args.j s.args.n s.args.stream.now s.args.middle.now l.loop-t.middle l.loop-t.t l.loop-t.invariant.1.0 (omega arith);
-      high_after = each_end (less_entries (2 ^ 64) (drop 512 s.args.tables.now)) s.args.per s.args.j s.args.n s.args.stream.now s.args.high.now l.loop-t.high l.loop-t.t l.loop-t.invariant.1.1 (omega arith);
+      low_after = each_end (less_entries (2 ^ 64) (drop 0 c.args.tables.now)) c.args.per c.args.j c.args.n c.args.stream.now c.args.low.now c.loop-t.low c.loop-t.t c.loop-t.invariant.0 (omega arith);
+      middle_after = each_end (less_entries (2 ^ 64) (drop 256 c.args.tables.now)) c.args.per c.args.j c.args.n c.args.stream.now c.args.middle.now c.loop-t.middle c.loop-t.t c.loop-t.invariant.1.0 (omega arith);
+      high_after = each_end (less_entries (2 ^ 64) (drop 512 c.args.tables.now)) c.args.per c.args.j c.args.n c.args.stream.now c.args.high.now c.loop-t.high c.loop-t.t c.loop-t.invariant.1.1 (omega arith);
     }

@@ -6,9 +6,4 @@ use Rattle.limb_tables.proofs.table.Goals as goal
 
 pub returns : goal.returns
 returns c =
-    let d = c in
-    let p = d in
-    let nb = p in
-    let na = nb in
-    let s = na in
-    table_law (2 ^ 64) s.args.a s.args.b _ _ _ _ _ _ (search rules) (search rules) na.wrapping_sub_u64-na.ensures.value nb.wrapping_sub_u64-nb.ensures.value (again _ _ _ p.wrapping_add_u64-pp.ensures.value) (whole _ _ _ d.wrapping_sub_u64-pm.ensures.value) c.wrapping_sub_u64-mp.ensures.value c.wrapping_sub_u64-mm.ensures.value
+    table_law (2 ^ 64) c.args.a c.args.b _ _ _ _ _ _ (search rules) (search rules) c.wrapping_sub_u64-na.ensures.value c.wrapping_sub_u64-nb.ensures.value (again _ _ _ c.wrapping_add_u64-pp.ensures.value) (whole _ _ _ c.wrapping_sub_u64-pm.ensures.value) c.wrapping_sub_u64-mp.ensures.value c.wrapping_sub_u64-mm.ensures.value

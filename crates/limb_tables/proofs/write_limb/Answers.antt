@@ -9,8 +9,7 @@ pub returns : goal.returns
 returns c =
     let t = c.write_tables in
     let w = c.write_limbs in
-    let s = c in
     record {
-      tables = tables_of (2 ^ 64) (2 * s.args.n) (limbs s.args.k (elements_of s.args.part.now)) w.new.row (drop s.args.base t.new.tables) w.ensures t.ensures.tables;
+      tables = tables_of (2 ^ 64) (2 * c.args.n) (limbs c.args.k (elements_of c.args.part.now)) w.new.row (drop c.args.base t.new.tables) w.ensures t.ensures.tables;
       by_index = t.ensures.by_index;
     }

@@ -8,5 +8,4 @@ returns c =
     let high = c.write_limb-3 in
     let middle = c.write_limb-2 in
     let low = c.write_limb in
-    let s = c in
-    limb_tables s.args.n (elements_of s.args.part.now) low.new.tables middle.new.tables high.new.tables s.requires.n_bound.0 low.ensures.tables middle.ensures.tables middle.ensures.by_index high.ensures.tables high.ensures.by_index
+    limb_tables c.args.n (elements_of c.args.part.now) low.new.tables middle.new.tables high.new.tables c.requires.n_bound.0 low.ensures.tables middle.ensures.tables middle.ensures.by_index high.ensures.tables high.ensures.by_index

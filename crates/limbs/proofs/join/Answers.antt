@@ -12,10 +12,4 @@ add-requires c = (remainder_below _ _ c.add-lower.ensures, remainder_below _ _ c
 
 pub returns : goal.returns
 returns c =
-    let t = c in
-    let h = t in
-    let s = h in
-    let y = s in
-    let m = y in
-    let l = m in
-    joined_is (modulus_of l.args.reduced) _ _ _ _ _ _ _ _ _ _ l.raised.ensures m.raised-2.ensures h.raised-3.ensures y.shifted.ensures s.add-lower.ensures t.shifted_twice.ensures c.add.ensures
+    joined_is (modulus_of c.args.reduced) _ _ _ _ _ _ _ _ _ _ c.raised.ensures c.raised-2.ensures c.raised-3.ensures c.shifted.ensures c.add-lower.ensures c.shifted_twice.ensures c.add.ensures

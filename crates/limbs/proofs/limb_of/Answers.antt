@@ -14,5 +14,4 @@ returns-then-k-eq1 c = middle_limb _ _ _ (search rules) c.if-k-eq1.true
 
 pub returns : goal.returns
 returns c =
-    let s = c in
-    high_limb s.args.k s.args.x.low _ (search rules) (omega (arith, c.if-k-eq0.false, c.if-k-eq1.false, s.requires)) (search rules)
+    high_limb c.args.k c.args.x.low _ (search rules) (omega (arith, c.if-k-eq0.false, c.if-k-eq1.false, c.requires)) (search rules)

@@ -9,9 +9,7 @@ use Rattle.load_draws.proofs.draw.Goals as goal
 
 pub returns : goal.returns
 returns c =
-    let g = c in
-    let s = g in
-    let n = length s.args.stream.now in (
-      g.fill_gradient-state.ensures.0 ∙ gradient_drawn s.args.seed (length s.args.gradient.now) n,
-      c.fill_stream.ensures ∙ ap (λ (x : ℕ). map stream_byte (states n x)) g.fill_gradient-state.ensures.1 ∙ stream_drawn s.args.seed (length s.args.gradient.now) n,
+    let n = length c.args.stream.now in (
+      c.fill_gradient-state.ensures.0 ∙ gradient_drawn c.args.seed (length c.args.gradient.now) n,
+      c.fill_stream.ensures ∙ ap (λ (x : ℕ). map stream_byte (states n x)) c.fill_gradient-state.ensures.1 ∙ stream_drawn c.args.seed (length c.args.gradient.now) n,
     )

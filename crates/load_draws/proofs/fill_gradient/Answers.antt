@@ -15,13 +15,11 @@ loop-i-init c = ((search rules, refl, refl), refl)
 
 pub loop-i-preserved : goal.loop-i-preserved
 loop-i-preserved c =
-    let l = c in
-    let s = l in
-    let d = s.args.row.now in
+    let d = c.args.row.now in
     let e = c.step-x.ensures in (
-      walking_next (coordinate 0) (map coordinate (states (length d) s.args.seed)) d l.loop-i.row l.loop-i.i c.coordinate.result (length_drawn coordinate (length d) s.args.seed) l.loop-i.invariant.0 (omega arith)
-          (c.coordinate.ensures ∙ ap coordinate e ∙ drawn_at coordinate (length d) s.args.seed l.loop-i.i l.loop-i.x (omega arith) l.loop-i.invariant.1),
-      e ∙ ap step l.loop-i.invariant.1 ∙ sym (after_next l.loop-i.i s.args.seed),
+      walking_next (coordinate 0) (map coordinate (states (length d) c.args.seed)) d c.loop-i.row c.loop-i.i c.coordinate.result (length_drawn coordinate (length d) c.args.seed) c.loop-i.invariant.0 (omega arith)
+          (c.coordinate.ensures ∙ ap coordinate e ∙ drawn_at coordinate (length d) c.args.seed c.loop-i.i c.loop-i.x (omega arith) c.loop-i.invariant.1),
+      e ∙ ap step c.loop-i.invariant.1 ∙ sym (after_next c.loop-i.i c.args.seed),
     )
 
 pub shape_of-row : goal.shape_of-row
@@ -29,7 +27,5 @@ shape_of-row c = c.loop-i.invariant.0.1
 
 pub returns : goal.returns
 returns c =
-    let l = c in
-    let s = l in
-    let z : l.loop-i.i ≡ length s.args.row.now = omega arith in
-    (l.loop-i.invariant.0.2 ∙ walked_end _ _ l.loop-i.i (length_drawn coordinate (length s.args.row.now) s.args.seed) (sym z), l.loop-i.invariant.1 ∙ ap (λ n. after n s.args.seed) z)
+    let z : c.loop-i.i ≡ length c.args.row.now = omega arith in
+    (c.loop-i.invariant.0.2 ∙ walked_end _ _ c.loop-i.i (length_drawn coordinate (length c.args.row.now) c.args.seed) (sym z), c.loop-i.invariant.1 ∙ ap (λ n. after n c.args.seed) z)

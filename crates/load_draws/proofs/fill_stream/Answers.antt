@@ -15,13 +15,11 @@ loop-i-init c = ((search rules, refl, refl), refl)
 
 pub loop-i-preserved : goal.loop-i-preserved
 loop-i-preserved c =
-    let l = c in
-    let s = l in
-    let d = s.args.row.now in
+    let d = c.args.row.now in
     let e = c.step-s.ensures in (
-      walking_next 0 (map stream_byte (states (length d) s.args.state)) d l.loop-i.row l.loop-i.i (stream_byte c.step-s.result) (length_drawn stream_byte (length d) s.args.state) l.loop-i.invariant.0 (omega arith)
-          (ap stream_byte e ∙ drawn_at stream_byte (length d) s.args.state l.loop-i.i l.loop-i.s (omega arith) l.loop-i.invariant.1),
-      e ∙ ap step l.loop-i.invariant.1 ∙ sym (after_next l.loop-i.i s.args.state),
+      walking_next 0 (map stream_byte (states (length d) c.args.state)) d c.loop-i.row c.loop-i.i (stream_byte c.step-s.result) (length_drawn stream_byte (length d) c.args.state) c.loop-i.invariant.0 (omega arith)
+          (ap stream_byte e ∙ drawn_at stream_byte (length d) c.args.state c.loop-i.i c.loop-i.s (omega arith) c.loop-i.invariant.1),
+      e ∙ ap step c.loop-i.invariant.1 ∙ sym (after_next c.loop-i.i c.args.state),
     )
 
 pub shape_of-row : goal.shape_of-row
@@ -29,6 +27,4 @@ shape_of-row c = c.loop-i.invariant.0.1
 
 pub returns : goal.returns
 returns c =
-    let l = c in
-    let s = l in
-    l.loop-i.invariant.0.2 ∙ walked_end _ _ l.loop-i.i (length_drawn stream_byte (length s.args.row.now) s.args.state) (omega arith)
+    c.loop-i.invariant.0.2 ∙ walked_end _ _ c.loop-i.i (length_drawn stream_byte (length c.args.row.now) c.args.state) (omega arith)

@@ -6,7 +6,4 @@ use Rattle.load_report.proofs.encode_drawn.Goals as goal
 
 pub returns : goal.returns
 returns c =
-    let e = c in
-    let g = e in
-    let s = c in
-    e.encode_with_wr_joint_rand.ensures ∙ (λ j. encode_of Field64 s.args.param (g.draw.ensures.0 j) (g.draw.ensures.1 j) s.args.measurement.now s.args.results.now)
+    c.encode_with_wr_joint_rand.ensures ∙ (λ j. encode_of Field64 c.args.param (c.draw.ensures.0 j) (c.draw.ensures.1 j) c.args.measurement.now c.args.results.now)

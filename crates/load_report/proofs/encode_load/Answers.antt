@@ -28,21 +28,18 @@ stream_long c = c.stream_len-n.ensures ∙ ap (λ (r : Pine). stream_len_of r.nu
 
 gradient_fits : (c : After-stream_len-n) → c.new-pine.result.dimension ≤ 1024
 gradient_fits c =
-    let s = c in
-    rw (gradient_long c) (room s.args.param s.requires).dimension
+    rw (gradient_long c) (room c.args.param c.requires).dimension
 
 stream_fits : (c : After-stream_len-n) → c.stream_len-n.result ≤ 4096
 stream_fits c =
-    let s = c in
-    rw (stream_long c) (room s.args.param s.requires).stream
+    rw (stream_long c) (room c.args.param c.requires).stream
 
 pub new-pine-requires : goal.new-pine-requires
 new-pine-requires c = derivable_64 (room c.args.param c.requires).accepts
 
 pub stream_len-n-requires : goal.stream_len-n-requires
 stream_len-n-requires c =
-    let s = c in
-    derived_64 (record { param = _; accepts = (room s.args.param s.requires).accepts; is = c.new-pine.ensures })
+    derived_64 (record { param = _; accepts = (room c.args.param c.requires).accepts; is = c.new-pine.ensures })
 
 pub slice_bounds-gradient-end : goal.slice_bounds-gradient-end
 slice_bounds-gradient-end c = gradient_fits c.before
@@ -58,10 +55,7 @@ slice_bounds-encode_drawn-end-2 c = part_long {A = ℕ} 4096 _ 0 (stream_fits c.
 
 pub returns : goal.returns
 returns c =
-    let e = c in
-    let l = e in
-    let s = l in
-    let d = sym (part_long 1024 _ (of_bits binary64 0) (gradient_fits l.before.before.before.before.before.before.before.before.before.before.before.before)) ∙ gradient_long l.before.before.before.before.before.before.before.before.before.before.before.before in
-    let n = sym (part_long {A = ℕ} 4096 _ 0 (stream_fits l.before.before.before.before.before.before.before.before.before.before.before.before)) ∙ stream_long l.before.before.before.before.before.before.before.before.before.before.before.before in
-    e.encode_drawn.ensures
-    ∙ (λ j. encode_of Field64 s.args.param (gradient_of s.args.seed (d j) (n j)) (stream_of s.args.seed (d j) (n j)) s.args.measurement.now s.args.results.now)
+    let d = sym (part_long 1024 _ (of_bits binary64 0) (gradient_fits c.before.before.before.before.before.before.before.before.before.before.before.before)) ∙ gradient_long c.before.before.before.before.before.before.before.before.before.before.before.before in
+    let n = sym (part_long {A = ℕ} 4096 _ 0 (stream_fits c.before.before.before.before.before.before.before.before.before.before.before.before)) ∙ stream_long c.before.before.before.before.before.before.before.before.before.before.before.before in
+    c.encode_drawn.ensures
+    ∙ (λ j. encode_of Field64 c.args.param (gradient_of c.args.seed (d j) (n j)) (stream_of c.args.seed (d j) (n j)) c.args.measurement.now c.args.results.now)

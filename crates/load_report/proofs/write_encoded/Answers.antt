@@ -34,34 +34,27 @@ encode_load-answer-requires c = let s = c in inputs_passed s.args.seed s.args.pa
 
 pub returns-then-answer-ne0 : goal.returns-then-answer-ne0
 returns-then-answer-ne0 c =
-    let e = c in
-    let s = e in
     let w = c in (
       w.write_answer.ensures.0
-          ∙ words_refused s.args.seed s.args.param (take s.args.m s.args.row.now) s.args.results.now (length-take-le s.args.m s.args.row.now (front_fits s.before.before.before.before.before.before.before.before.before.before.before.before.before.before.before.before) ∙ s.requires.m_value.0) s.requires.m_value.1 s.requires.param_value _ _ _ e.encode_load-answer.ensures w.if-answer-ne0.true,
+          ∙ words_refused c.args.seed c.args.param (take c.args.m c.args.row.now) c.args.results.now (length-take-le c.args.m c.args.row.now (front_fits c.before.before.before.before.before.before.before.before.before.before.before.before.before.before.before.before) ∙ c.requires.m_value.0) c.requires.m_value.1 c.requires.param_value _ _ _ c.encode_load-answer.ensures w.if-answer-ne0.true,
       omega (arith, w.write_answer.ensures.1),
     )
 
 pub offset_bounds-row-m : goal.offset_bounds-row-m
 offset_bounds-row-m c =
-    let s = c in
-    omega (arith, (room_of s.before.before.before.before.before.before.before.before.before.before.before.before).measurement, s.requires.m_value.0)
+    omega (arith, (room_of c.before.before.before.before.before.before.before.before.before.before.before.before).measurement, c.requires.m_value.0)
 
 pub slice_bounds-copy_row-end : goal.slice_bounds-copy_row-end
 slice_bounds-copy_row-end c =
-    let s = c in
-    omega (arith, (room_of s.before.before.before.before.before.before.before.before.before.before.before.before).measurement, (room_of s.before.before.before.before.before.before.before.before.before.before.before.before).tests, s.requires.m_value.0, s.requires.m_value.1, s.requires.row_len)
+    omega (arith, (room_of c.before.before.before.before.before.before.before.before.before.before.before.before).measurement, (room_of c.before.before.before.before.before.before.before.before.before.before.before.before).tests, c.requires.m_value.0, c.requires.m_value.1, c.requires.row_len)
 
 pub returns : goal.returns
 returns c =
-    let e = c in
-    let s = e in
-    let r = c in
-    let lm : length (take s.args.m s.args.row.now) ≡ s.args.m = length-take-le s.args.m s.args.row.now (front_fits s.before.before.before.before.before.before.before.before.before.before.before.before.before.before.before.before) in
-    let la : length e.encode_load-answer.new.measurement ≡ s.args.m = e.encode_load-answer.auto.measurement ∙ lm in
-    let lb : length r.copy_row.new.to ≡ length s.args.results.now = ap length r.copy_row.ensures ∙ e.encode_load-answer.auto.results in (
-      joined s.args.m (length s.args.results.now) e.encode_load-answer.new.measurement (drop s.args.m s.args.row.now) r.copy_row.new.to la lb
-          ∙ ap (λ (b : List ℕ). e.encode_load-answer.new.measurement ++ b) r.copy_row.ensures
-          ∙ words_made s.args.seed s.args.param (take s.args.m s.args.row.now) s.args.results.now (lm ∙ s.requires.m_value.0) s.requires.m_value.1 s.requires.param_value _ _ _ e.encode_load-answer.ensures c.if-answer-ne0.false,
-      omega (arith, (room_of s.before.before.before.before.before.before.before.before.before.before.before.before.before.before.before.before).measurement, (room_of s.before.before.before.before.before.before.before.before.before.before.before.before.before.before.before.before).tests, s.requires.m_value.0, s.requires.m_value.1),
+    let lm : length (take c.args.m c.args.row.now) ≡ c.args.m = length-take-le c.args.m c.args.row.now (front_fits c.before.before.before.before.before.before.before.before.before.before.before.before.before.before.before.before) in
+    let la : length c.encode_load-answer.new.measurement ≡ c.args.m = c.encode_load-answer.auto.measurement ∙ lm in
+    let lb : length c.copy_row.new.to ≡ length c.args.results.now = ap length c.copy_row.ensures ∙ c.encode_load-answer.auto.results in (
+      joined c.args.m (length c.args.results.now) c.encode_load-answer.new.measurement (drop c.args.m c.args.row.now) c.copy_row.new.to la lb
+          ∙ ap (λ (b : List ℕ). c.encode_load-answer.new.measurement ++ b) c.copy_row.ensures
+          ∙ words_made c.args.seed c.args.param (take c.args.m c.args.row.now) c.args.results.now (lm ∙ c.requires.m_value.0) c.requires.m_value.1 c.requires.param_value _ _ _ c.encode_load-answer.ensures c.if-answer-ne0.false,
+      omega (arith, (room_of c.before.before.before.before.before.before.before.before.before.before.before.before.before.before.before.before).measurement, (room_of c.before.before.before.before.before.before.before.before.before.before.before.before.before.before.before.before).tests, c.requires.m_value.0, c.requires.m_value.1),
     )

@@ -17,32 +17,18 @@ words_fit c = omega (arith, c.write_words_for-n.ensures.1, c.write_words_for-n.a
 
 pub returns-then-answer-ne0 : goal.returns-then-answer-ne0
 returns-then-answer-ne0 c =
-    let k = c in
-    let w = k in
-    let s = w in
-    report_refused s.args.text.now w.write_words_for-n.new.row w.write_words_for-n.result (words_fit w.before.before.before.before.before) w.write_words_for-n.ensures.0 s.args.out.now _ k.check_len-answer.ensures c.if-answer-ne0.true
+    report_refused c.args.text.now c.write_words_for-n.new.row c.write_words_for-n.result (words_fit c.before.before.before.before.before) c.write_words_for-n.ensures.0 c.args.out.now _ c.check_len-answer.ensures c.if-answer-ne0.true
 
 pub slice_bounds-put_elements-end : goal.slice_bounds-put_elements-end
 slice_bounds-put_elements-end c =
-    let w = c in
-    let s = w in
-    words_long s.args.text.now _ _ (words_fit w.before.before.before.before.before.before.before) w.write_words_for-n.ensures.0
+    words_long c.args.text.now _ _ (words_fit c.before.before.before.before.before.before.before) c.write_words_for-n.ensures.0
 
 pub put_elements-requires : goal.put_elements-requires
 put_elements-requires c =
-    let e = c in
-    let k = e in
-    let w = k in
-    let s = w in
-    let l = words_long s.args.text.now w.write_words_for-n.new.row w.write_words_for-n.result (words_fit w.before.before.before.before.before.before.before) w.write_words_for-n.ensures.0 in
-    let o = out_long s.args.text.now w.write_words_for-n.new.row w.write_words_for-n.result (words_fit w.before.before.before.before.before.before.before) w.write_words_for-n.ensures.0 s.args.out.now _ k.check_len-answer.ensures e.if-answer-ne0.false in
+    let l = words_long c.args.text.now c.write_words_for-n.new.row c.write_words_for-n.result (words_fit c.before.before.before.before.before.before.before) c.write_words_for-n.ensures.0 in
+    let o = out_long c.args.text.now c.write_words_for-n.new.row c.write_words_for-n.result (words_fit c.before.before.before.before.before.before.before) c.write_words_for-n.ensures.0 c.args.out.now _ c.check_len-answer.ensures c.if-answer-ne0.false in
     omega arith
 
 pub returns : goal.returns
 returns c =
-    let p = c in
-    let e = p in
-    let k = e in
-    let w = k in
-    let s = w in
-    report_written s.args.text.now w.write_words_for-n.new.row w.write_words_for-n.result (words_fit w.before.before.before.before.before.before.before.before.before.before) w.write_words_for-n.ensures.0 s.args.out.now _ k.check_len-answer.ensures _ e.if-answer-ne0.false p.put_elements.ensures.0
+    report_written c.args.text.now c.write_words_for-n.new.row c.write_words_for-n.result (words_fit c.before.before.before.before.before.before.before.before.before.before) c.write_words_for-n.ensures.0 c.args.out.now _ c.check_len-answer.ensures _ c.if-answer-ne0.false c.put_elements.ensures.0

@@ -40,9 +40,7 @@ tests_fit c = rw (tests_are c) (room_of c.before).tests
 
 pub returns-then-early-ne0 : goal.returns-then-early-ne0
 returns-then-early-ne0 c =
-    let w = c in
-    let t = w in
-    (w.write_answer.ensures.0 ∙ words_early _ _ _ t.check_load-early.ensures t.if-early-ne0.true, omega (arith, w.write_answer.ensures.1))
+    (c.write_answer.ensures.0 ∙ words_early _ _ _ c.check_load-early.ensures c.if-early-ne0.true, omega (arith, c.write_answer.ensures.1))
 
 pub new-pine-requires : goal.new-pine-requires
 new-pine-requires c = derivable_64 (room_of c.before).accepts
@@ -55,9 +53,8 @@ slice_bounds-write_encoded-end c = part_long {A = ℕ} 16 _ 0 (tests_fit c.befor
 
 pub write_encoded-requires : goal.write_encoded-requires
 write_encoded-requires c =
-    let n = c in
     record {
-      param_value = early_passed n.before.before.before;
-      m_value = (measurement_is n.before.before, sym (part_long {A = ℕ} 16 _ 0 (tests_fit n.before.before)) ∙ tests_are n.before.before);
-      row_len = n.requires;
+      param_value = early_passed c.before.before.before;
+      m_value = (measurement_is c.before.before, sym (part_long {A = ℕ} 16 _ 0 (tests_fit c.before.before)) ∙ tests_are c.before.before);
+      row_len = c.requires;
     }

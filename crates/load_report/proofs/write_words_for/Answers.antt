@@ -36,6 +36,4 @@ param_of-requires c =
 
 pub returns : goal.returns
 returns c =
-    let w = c in
-    let p = w in
-    (w.write_words.ensures.0 ∙ ap (words_of (get_or p.read_numbers.new.row 0 0)) p.param_of.ensures ∙ ap words_for (numbers_are p.before.before.before.before.before.before), w.write_words.ensures.1)
+    (c.write_words.ensures.0 ∙ ap (words_of (get_or c.read_numbers.new.row 0 0)) c.param_of.ensures ∙ ap words_for (numbers_are c.before.before.before.before.before.before), c.write_words.ensures.1)

@@ -28,10 +28,8 @@ digit c = sym c.is_digit.ensures ∙ c.if-not-is_digit.false
 
 pub returns-then-not-is_digit : goal.returns-then-not-is_digit
 returns-then-not-is_digit c =
-    let l = c in
-    let s = l in
-    let d : is_digit (get_or s.args.text.now l.loop-i.i 0) ≡ false = sym c.is_digit.ensures ∙ c.if-not-is_digit.true in
-    c.end.ensures ∙ digits_end s.args.text.now l.loop-i.i s.args.most c.loop-i-test.true l.loop-i.n d ∙ ap (up_to s.args.most) (sym l.loop-i.invariant.1)
+    let d : is_digit (get_or c.args.text.now c.loop-i.i 0) ≡ false = sym c.is_digit.ensures ∙ c.if-not-is_digit.true in
+    c.end.ensures ∙ digits_end c.args.text.now c.loop-i.i c.args.most c.loop-i-test.true c.loop-i.n d ∙ ap (up_to c.args.most) (sym c.loop-i.invariant.1)
 
 pub overflow_sub-b : goal.overflow_sub-b
 overflow_sub-b c = digit_above _ (digit c.before)
@@ -41,23 +39,15 @@ overflow_cast-b c = omega (arith, c.shared_slice_known-in-loop-i-1.given c.loop-
 
 pub returns-in_default : goal.returns-in_default
 returns-in_default c =
-    let e = c in
-    let l = e in
-    let s = l in
     let w = subst (Appends _ _ _) c.in_default.is c.append-appended.ensures in
-    too_wide s.args.most _ (drop (l.loop-i.i + 1) s.args.text.now) w
-    ∙ ap (up_to s.args.most) (sym (l.loop-i.invariant.1 ∙ digits_next s.args.text.now l.loop-i.i s.args.most e.loop-i-test.true l.loop-i.n (digit e.before.before.before)))
+    too_wide c.args.most _ (drop (c.loop-i.i + 1) c.args.text.now) w
+    ∙ ap (up_to c.args.most) (sym (c.loop-i.invariant.1 ∙ digits_next c.args.text.now c.loop-i.i c.args.most c.loop-i-test.true c.loop-i.n (digit c.before.before.before)))
 
 pub loop-i-preserved : goal.loop-i-preserved
 loop-i-preserved c =
-    let e = c in
-    let l = e in
-    let s = l in
     let w = subst (Appends _ _ _) c.in-To.is c.append-appended.ensures in
-    (w.1, l.loop-i.invariant.1 ∙ digits_next s.args.text.now l.loop-i.i s.args.most e.loop-i-test.true l.loop-i.n (digit e.before.before.before) ∙ ap (λ (n : ℕ). digits_from n (drop (l.loop-i.i + 1) s.args.text.now)) (sym w.0))
+    (w.1, c.loop-i.invariant.1 ∙ digits_next c.args.text.now c.loop-i.i c.args.most c.loop-i-test.true c.loop-i.n (digit c.before.before.before) ∙ ap (λ (n : ℕ). digits_from n (drop (c.loop-i.i + 1) c.args.text.now)) (sym w.0))
 
 pub returns : goal.returns
 returns c =
-    let l = c in
-    let s = l in
-    digits_nothing s.args.text.now l.loop-i.i s.args.most c.loop-i-test.false l.loop-i.n ∙ ap (up_to s.args.most) (sym l.loop-i.invariant.1)
+    digits_nothing c.args.text.now c.loop-i.i c.args.most c.loop-i-test.false c.loop-i.n ∙ ap (up_to c.args.most) (sym c.loop-i.invariant.1)

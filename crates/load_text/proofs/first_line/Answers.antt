@@ -22,14 +22,11 @@ returns-then-text-at c = line_nothing c.args.text.now _ _ c.if-text-at.true
 
 pub returns-then-not-is_digit : goal.returns-then-not-is_digit
 returns-then-not-is_digit c =
-    let s = c in
-    line_other s.args.text.now s.args.at s.args.most c.if-text-at.false (sym c.is_digit.ensures ∙ c.if-not-is_digit.true)
+    line_other c.args.text.now c.args.at c.args.most c.if-text-at.false (sym c.is_digit.ensures ∙ c.if-not-is_digit.true)
 
 pub returns-then-b-eq48 : goal.returns-then-b-eq48
 returns-then-b-eq48 c =
-    let e = c in
-    let s = e in
-    c.end.ensures ∙ line_zero s.args.text.now s.args.at s.args.most e.if-text-at.false (digit e.before.before.before) c.if-b-eq48.true
+    c.end.ensures ∙ line_zero c.args.text.now c.args.at c.args.most c.if-text-at.false (digit c.before.before.before) c.if-b-eq48.true
 
 pub overflow_sub-b : goal.overflow_sub-b
 overflow_sub-b c = digit_above _ (digit c.before.before)
@@ -39,6 +36,4 @@ overflow_cast-b c = omega (arith, c.shared_slice_known-2-1.given c.args.at)
 
 pub returns : goal.returns
 returns c =
-    let e = c in
-    let s = e in
-    c.digits_from.ensures ∙ line_digits s.args.text.now s.args.at s.args.most e.if-text-at.false (digit e.before.before.before) c.if-b-eq48.false
+    c.digits_from.ensures ∙ line_digits c.args.text.now c.args.at c.args.most c.if-text-at.false (digit c.before.before.before) c.if-b-eq48.false

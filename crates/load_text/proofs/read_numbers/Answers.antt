@@ -13,20 +13,15 @@ shape_of-row-in_default c = c.loop-k.invariant.1 ∙ sym c.requires
 
 pub returns-in_default : goal.returns-in_default
 returns-in_default c =
-    let l = c in
-    let s = l in
-    reading_other load_limits s.args.text.now l.loop-k.row l.loop-k.at l.loop-k.k l.loop-k.invariant c.loop-k-test.true _ c.first_line-line.ensures c.in_default.is
+    reading_other load_limits c.args.text.now c.loop-k.row c.loop-k.at c.loop-k.k c.loop-k.invariant c.loop-k-test.true _ c.first_line-line.ensures c.in_default.is
 
 pub loop-k-preserved : goal.loop-k-preserved
 loop-k-preserved c =
-    let l = c in
-    let s = l in
-    reading_next load_limits s.args.text.now l.loop-k.row l.loop-k.at l.loop-k.k l.loop-k.invariant c.loop-k-test.true _ c.first_line-line.ensures _ _ c.in-Number.is
+    reading_next load_limits c.args.text.now c.loop-k.row c.loop-k.at c.loop-k.k c.loop-k.invariant c.loop-k-test.true _ c.first_line-line.ensures _ _ c.in-Number.is
 
 pub shape_of-row : goal.shape_of-row
 shape_of-row c = c.loop-k.invariant.1 ∙ sym c.requires
 
 pub returns : goal.returns
 returns c =
-    let l = c in
-    reading_done load_limits l.args.text.now l.loop-k.row l.loop-k.at l.loop-k.k l.loop-k.invariant c.loop-k-test.false
+    reading_done load_limits c.args.text.now c.loop-k.row c.loop-k.at c.loop-k.k c.loop-k.invariant c.loop-k-test.false

@@ -17,14 +17,11 @@ loop-i-init c = (search rules, refl, refl)
 
 pub loop-i-preserved : goal.loop-i-preserved
 loop-i-preserved c =
-    let l = c in
-    let s = c in
-    turn s.args.from.now s.args.to.now l.loop-i.to l.loop-i.i s.requires l.loop-i.invariant (omega arith)
+    turn c.args.from.now c.args.to.now c.loop-i.to c.loop-i.i c.requires c.loop-i.invariant (omega arith)
 
 pub shape_of-to : goal.shape_of-to
 shape_of-to c = c.loop-i.invariant.1
 
 pub returns : goal.returns
 returns c =
-    let l = c in
-    l.loop-i.invariant.2 ∙ walked_end _ _ l.loop-i.i (sym c.requires) (omega arith)
+    c.loop-i.invariant.2 ∙ walked_end _ _ c.loop-i.i (sym c.requires) (omega arith)

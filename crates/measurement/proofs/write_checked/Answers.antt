@@ -14,8 +14,7 @@ slice_bounds-write_bits-end c = omega arith
 
 pub slice_bounds-write_bits-end-2 : goal.slice_bounds-write_bits-end-2
 slice_bounds-write_bits-end-2 c =
-    let s = c in
-    sym (length-take-le s.args.q s.args.rest.now (omega (arith, s.requires.rest_len)))
+    sym (length-take-le c.args.q c.args.rest.now (omega (arith, c.requires.rest_len)))
 
 pub write_bits-requires : goal.write_bits-requires
 write_bits-requires c = omega arith
@@ -59,5 +58,4 @@ shape_of-rest c = omega arith
 
 pub returns : goal.returns
 returns c =
-    let s = c in
-    checked_written p64 s.args.q s.args.v s.args.u s.args.w s.args.bound s.args.successes s.args.results.now s.args.rest.now _ _ _ s.requires.rest_len c.write_bits.ensures c.write_bits-2.ensures c.write_tests.ensures
+    checked_written p64 c.args.q c.args.v c.args.u c.args.w c.args.bound c.args.successes c.args.results.now c.args.rest.now _ _ _ c.requires.rest_len c.write_bits.ensures c.write_bits-2.ensures c.write_tests.ensures

@@ -26,11 +26,10 @@ slice_bounds-write_elements-end-2 c = sym (front c.before.before.before.before.b
 
 pub write_elements-requires : goal.write_elements-requires
 write_elements-requires c =
-    let s = c in
     record {
-      usable = s.requires.usable;
-      scale_value = s.requires.scale_value;
-      row_len = front s.before.before.before.before.before;
+      usable = c.requires.usable;
+      scale_value = c.requires.scale_value;
+      row_len = front c.before.before.before.before.before;
     }
 
 pub sub-u-requires : goal.sub-u-requires
@@ -61,9 +60,8 @@ shape_of-measurement c = omega arith
 
 pub returns : goal.returns
 returns c =
-    let s = c in
-    let i = s.args.pine in
+    let i = c.args.pine in
     let u = c.sub-u.ensures in
     let b = c.wr_test_bound.ensures in
-    two_written _ _ s.args.measurement.now _ _ (length s.args.gradient.now) (length_elements p64 i.frac_bits s.args.gradient.now) c.write_elements.ensures
-    (c.write_checked.ensures ∙ (λ j. checked_of p64 i.sq_norm_bits s.args.v (u j) i.wr_test_bits (b j) i.num_wr_successes s.args.results.now))
+    two_written _ _ c.args.measurement.now _ _ (length c.args.gradient.now) (length_elements p64 i.frac_bits c.args.gradient.now) c.write_elements.ensures
+    (c.write_checked.ensures ∙ (λ j. checked_of p64 i.sq_norm_bits c.args.v (u j) i.wr_test_bits (b j) i.num_wr_successes c.args.results.now))

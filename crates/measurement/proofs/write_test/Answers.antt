@@ -7,10 +7,8 @@ use Rattle.measurement.proofs.write_test.Goals as goal
 
 pub slice_bounds-write_bits-end-2 : goal.slice_bounds-write_bits-end-2
 slice_bounds-write_bits-end-2 c =
-    let s = c in
-    sym (length-take-le s.args.w s.args.row.now (omega (arith, s.requires)))
+    sym (length-take-le c.args.w c.args.row.now (omega (arith, c.requires)))
 
 pub returns : goal.returns
 returns c =
-    let s = c in
-    test_written s.args.w s.args.value s.args.success s.args.row.now _ s.requires c.write_bits.ensures
+    test_written c.args.w c.args.value c.args.success c.args.row.now _ c.requires c.write_bits.ensures

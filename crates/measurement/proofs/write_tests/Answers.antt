@@ -18,14 +18,11 @@ In-loop-t = lts.In-loop tie.the-claims reads.Pre reads.Post goal.the-invariant-l
 -- the test's bits have room
 room : (c : In-loop-t) → c.loop-t.start + c.args.w + 1 ≤ length c.loop-t.row
 room c =
-    let l = c in
-    let s = l in
-    test_room s.args.w l.loop-t.t (length s.args.results.now) l.loop-t.start (length l.loop-t.row) c.loop-t-test.true l.loop-t.invariant.1 (l.loop-t.invariant.2 ∙ s.requires.row_len)
+    test_room c.args.w c.loop-t.t (length c.args.results.now) c.loop-t.start (length c.loop-t.row) c.loop-t-test.true c.loop-t.invariant.1 (c.loop-t.invariant.2 ∙ c.requires.row_len)
 
 pub loop-t-init : goal.loop-t-init
 loop-t-init c =
-    let s = c in
-    (search rules, omega arith, refl, tests_start p64 s.args.w s.args.bound s.args.successes s.args.results.now s.args.row.now, refl)
+    (search rules, omega arith, refl, tests_start p64 c.args.w c.args.bound c.args.successes c.args.results.now c.args.row.now, refl)
 
 pub offset_bounds-results-t : goal.offset_bounds-results-t
 offset_bounds-results-t c = omega arith
@@ -38,9 +35,7 @@ in_range-hit-requires c = omega (arith, c.requires.below.1)
 
 pub number_of-value-requires : goal.number_of-value-requires
 number_of-value-requires c =
-    let l = c in
-    let s = l in
-    (below_at p64 s.args.results.now s.requires.below.0 l.loop-t.t c.loop-t-test.true, s.requires.below.1)
+    (below_at p64 c.args.results.now c.requires.below.0 c.loop-t.t c.loop-t-test.true, c.requires.below.1)
 
 pub success_bit-success-requires : goal.success_bit-success-requires
 success_bit-success-requires c = omega arith
@@ -65,13 +60,11 @@ slice_bounds-write_test-end c = room c.before.before.before.before.before
 
 pub write_test-requires : goal.write_test-requires
 write_test-requires c =
-    let l = c in
-    test_long l.args.w l.loop-t.start l.loop-t.row (room c.before.before.before.before.before.before)
+    test_long c.args.w c.loop-t.start c.loop-t.row (room c.before.before.before.before.before.before)
 
 pub overflow_sub-left : goal.overflow_sub-left
 overflow_sub-left c =
-    let g = c in
-    omega (arith, g.success_bit-success.ensures, success_fits g.in_range-hit.result g.loop-t.left)
+    omega (arith, c.success_bit-success.ensures, success_fits c.in_range-hit.result c.loop-t.left)
 
 pub overflow_add-t : goal.overflow_add-t
 overflow_add-t c = omega arith
@@ -81,22 +74,17 @@ loop-t-smaller c = omega arith
 
 pub loop-t-preserved : goal.loop-t-preserved
 loop-t-preserved c =
-    let l = c in
-    let s = l in
-    let g = c in
-    let rs = s.args.results.now in
-    let h = g.loop-t-test.true in
-    let is = g.in_range-hit.ensures in
-    let n = number_written p64 s.args.bound s.args.successes l.loop-t.t rs _ is g.number_of-value.result g.number_of-value.ensures in
-    let b = bit_given p64 s.args.bound s.args.successes l.loop-t.t rs _ is l.loop-t.left g.success_bit-success.result l.loop-t.invariant.4 g.success_bit-success.ensures in
-    let f = left_given p64 s.args.bound s.args.successes l.loop-t.t rs _ is l.loop-t.left g.success_bit-success.result l.loop-t.invariant.4 g.success_bit-success.ensures h in
-    (omega arith, next_start s.args.w l.loop-t.t l.loop-t.start l.loop-t.invariant.1, search rules, tests_written p64 s.args.w s.args.bound s.args.successes rs s.args.row.now l.loop-t.row _ l.loop-t.t l.loop-t.start g.number_of-value.result g.success_bit-success.result h l.loop-t.invariant.1 l.loop-t.invariant.3 n b c.write_test.ensures, f)
+    let rs = c.args.results.now in
+    let h = c.loop-t-test.true in
+    let is = c.in_range-hit.ensures in
+    let n = number_written p64 c.args.bound c.args.successes c.loop-t.t rs _ is c.number_of-value.result c.number_of-value.ensures in
+    let b = bit_given p64 c.args.bound c.args.successes c.loop-t.t rs _ is c.loop-t.left c.success_bit-success.result c.loop-t.invariant.4 c.success_bit-success.ensures in
+    let f = left_given p64 c.args.bound c.args.successes c.loop-t.t rs _ is c.loop-t.left c.success_bit-success.result c.loop-t.invariant.4 c.success_bit-success.ensures h in
+    (omega arith, next_start c.args.w c.loop-t.t c.loop-t.start c.loop-t.invariant.1, search rules, tests_written p64 c.args.w c.args.bound c.args.successes rs c.args.row.now c.loop-t.row _ c.loop-t.t c.loop-t.start c.number_of-value.result c.success_bit-success.result h c.loop-t.invariant.1 c.loop-t.invariant.3 n b c.write_test.ensures, f)
 
 pub shape_of-row : goal.shape_of-row
 shape_of-row c = c.loop-t.invariant.2
 
 pub returns : goal.returns
 returns c =
-    let l = c in
-    let s = l in
-    tests_end p64 s.args.w s.args.bound s.args.successes s.args.results.now s.args.row.now _ l.loop-t.t l.loop-t.start (omega arith) l.loop-t.invariant.1 s.requires.row_len l.loop-t.invariant.3
+    tests_end p64 c.args.w c.args.bound c.args.successes c.args.results.now c.args.row.now _ c.loop-t.t c.loop-t.start (omega arith) c.loop-t.invariant.1 c.requires.row_len c.loop-t.invariant.3

@@ -35,28 +35,21 @@ bounds-row-last c = omega (arith, c.loop-i.invariant.inside, c.loop-i.invariant.
 
 pub store-requires : goal.store-requires
 store-requires c =
-    let l = c in
-    omega (arith, elements_length l.loop-i.row, l.loop-i.invariant.inside, l.loop-i.invariant.long)
+    omega (arith, elements_length c.loop-i.row, c.loop-i.invariant.inside, c.loop-i.invariant.long)
 
 pub loop-i-smaller : goal.loop-i-smaller
 loop-i-smaller c = omega arith
 
 pub loop-i-preserved : goal.loop-i-preserved
 loop-i-preserved c =
-    let k = c in
-    let w = k in
-    let l = w in
-    let s = l in
-    let d = s.args.row.now in
-    let t = subst (Spreading d l.loop-i.row) (last_of l.loop-i.i (omega arith)) l.loop-i.invariant in
-    subst (λ (a : List ℕ). Spreading d a (l.loop-i.i - 1)) (sym (k.store.ensures ∙ ap (λ (h : ℕ). set (set l.loop-i.row (2 * (l.loop-i.i - 1)) w.widened-e.result.low) (2 * (l.loop-i.i - 1) + 1) h) w.widened-e.ensures.1)) (spread_next d (halves d s.requires) l.loop-i.row (l.loop-i.i - 1) t w.widened-e.result.low (small w.before.before.before.before.before) w.widened-e.ensures.0)
+    let d = c.args.row.now in
+    let t = subst (Spreading d c.loop-i.row) (last_of c.loop-i.i (omega arith)) c.loop-i.invariant in
+    subst (λ (a : List ℕ). Spreading d a (c.loop-i.i - 1)) (sym (c.store.ensures ∙ ap (λ (h : ℕ). set (set c.loop-i.row (2 * (c.loop-i.i - 1)) c.widened-e.result.low) (2 * (c.loop-i.i - 1) + 1) h) c.widened-e.ensures.1)) (spread_next d (halves d c.requires) c.loop-i.row (c.loop-i.i - 1) t c.widened-e.result.low (small c.before.before.before.before.before) c.widened-e.ensures.0)
 
 pub shape_of-row : goal.shape_of-row
 shape_of-row c = c.loop-i.invariant.long
 
 pub returns : goal.returns
 returns c =
-    let l = c in
-    let s = l in
-    let z : l.loop-i.i ≡ 0 = omega arith in
-    spread_end s.args.row.now (halves s.args.row.now s.requires) l.loop-i.row (subst (Spreading s.args.row.now l.loop-i.row) z l.loop-i.invariant)
+    let z : c.loop-i.i ≡ 0 = omega arith in
+    spread_end c.args.row.now (halves c.args.row.now c.requires) c.loop-i.row (subst (Spreading c.args.row.now c.loop-i.row) z c.loop-i.invariant)

@@ -27,40 +27,30 @@ loop-k-init c = (omega arith, (omega arith, refl, refl))
 
 pub element_of-e-requires : goal.element_of-e-requires
 element_of-e-requires c =
-    let l = c in
-    let s = l in
     record {
-      fact_1 = usable_at floor_limit128 s.args.frac_bits nan s.args.gradient.now s.requires.usable l.loop-k.k (omega arith);
-      fact_2 = s.requires.scale_value;
+      fact_1 = usable_at floor_limit128 c.args.frac_bits nan c.args.gradient.now c.requires.usable c.loop-k.k (omega arith);
+      fact_2 = c.requires.scale_value;
     }
 
 pub store-requires : goal.store-requires
 store-requires c =
-    let l = c in
-    let s = l in
-    let d = s.args.row.now in
-    let w = fits s.args.frac_bits s.args.gradient.now d s.requires.row_len in
-    omega (arith, same_elements (elements p128 s.args.frac_bits s.args.gradient.now) d l.loop-k.row l.loop-k.k w.0 w.1.1 l.loop-k.invariant.1, w.1.0)
+    let d = c.args.row.now in
+    let w = fits c.args.frac_bits c.args.gradient.now d c.requires.row_len in
+    omega (arith, same_elements (elements p128 c.args.frac_bits c.args.gradient.now) d c.loop-k.row c.loop-k.k w.0 w.1.1 c.loop-k.invariant.1, w.1.0)
 
 pub loop-k-preserved : goal.loop-k-preserved
 loop-k-preserved c =
-    let k = c in
-    let e = k in
-    let l = e in
-    let s = l in
-    let g = s.args.gradient.now in
-    let f = s.args.frac_bits in
-    let d = s.args.row.now in
-    let w = fits f g d s.requires.row_len in
-    let is = e.element_of-e.ensures ∙ sym (elements_at p128 f nan g l.loop-k.k (omega arith)) in
-    (omega arith, subst (λ (a : List ℕ). Walking (words_of (elements p128 f g)) d a (2 * (l.loop-k.k + 1))) (sym k.store.ensures) (element_next (elements p128 f g) d l.loop-k.row l.loop-k.k w.0 w.1.1 l.loop-k.invariant.1 (omega (arith, w.1.0)) e.element_of-e.result.low e.element_of-e.result.high (search rules) is))
+    let g = c.args.gradient.now in
+    let f = c.args.frac_bits in
+    let d = c.args.row.now in
+    let w = fits f g d c.requires.row_len in
+    let is = c.element_of-e.ensures ∙ sym (elements_at p128 f nan g c.loop-k.k (omega arith)) in
+    (omega arith, subst (λ (a : List ℕ). Walking (words_of (elements p128 f g)) d a (2 * (c.loop-k.k + 1))) (sym c.store.ensures) (element_next (elements p128 f g) d c.loop-k.row c.loop-k.k w.0 w.1.1 c.loop-k.invariant.1 (omega (arith, w.1.0)) c.element_of-e.result.low c.element_of-e.result.high (search rules) is))
 
 pub shape_of-row : goal.shape_of-row
 shape_of-row c = c.loop-k.invariant.1.1
 
 pub returns : goal.returns
 returns c =
-    let l = c in
-    let s = l in
-    let w = fits s.args.frac_bits s.args.gradient.now s.args.row.now s.requires.row_len in
-    words_end (elements p128 s.args.frac_bits s.args.gradient.now) s.args.row.now l.loop-k.row l.loop-k.k w.0 w.1.1 l.loop-k.invariant.1 (omega (arith, w.1.0))
+    let w = fits c.args.frac_bits c.args.gradient.now c.args.row.now c.requires.row_len in
+    words_end (elements p128 c.args.frac_bits c.args.gradient.now) c.args.row.now c.loop-k.row c.loop-k.k w.0 w.1.1 c.loop-k.invariant.1 (omega (arith, w.1.0))

@@ -30,11 +30,10 @@ slice_bounds-write_elements-end-2 c = sym (front c.before.before.before.before.b
 
 pub write_elements-requires : goal.write_elements-requires
 write_elements-requires c =
-    let s = c in
     record {
-      usable = s.requires.usable;
-      scale_value = s.requires.scale_value;
-      row_len = front s.before.before.before.before.before;
+      usable = c.requires.usable;
+      scale_value = c.requires.scale_value;
+      row_len = front c.before.before.before.before.before;
     }
 
 pub sub-u-requires : goal.sub-u-requires
@@ -65,11 +64,10 @@ shape_of-measurement c = omega arith
 
 pub returns : goal.returns
 returns c =
-    let s = c in
-    let i = s.args.pine in
-    let g = s.args.gradient.now in
+    let i = c.args.pine in
+    let g = c.args.gradient.now in
     let u = c.sub-u.ensures in
     let b = c.wr_test_bound.ensures in
-    two_written (words_of (elements p128 i.frac_bits g)) _ s.args.measurement.now _ _ (2 * length g) (words_length (elements p128 i.frac_bits g) ∙ ap (λ (n : ℕ). 2 * n) (length_elements p128 i.frac_bits g)) c.write_elements.ensures
-    (c.write_rest.ensures ∙ (λ j. words_of (checked_of p64 i.sq_norm_bits s.args.v (u j) i.wr_test_bits (b j) i.num_wr_successes s.args.results.now)))
+    two_written (words_of (elements p128 i.frac_bits g)) _ c.args.measurement.now _ _ (2 * length g) (words_length (elements p128 i.frac_bits g) ∙ ap (λ (n : ℕ). 2 * n) (length_elements p128 i.frac_bits g)) c.write_elements.ensures
+    (c.write_rest.ensures ∙ (λ j. words_of (checked_of p64 i.sq_norm_bits c.args.v (u j) i.wr_test_bits (b j) i.num_wr_successes c.args.results.now)))
     ∙ sym (words_append (elements p128 i.frac_bits g) _)

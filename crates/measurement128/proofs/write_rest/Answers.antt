@@ -33,26 +33,19 @@ checked_long q v u w b k rs = simp (length-append, length_bits) (omega (arith, l
 
 pub slice_bounds-write_checked-end-2 : goal.slice_bounds-write_checked-end-2
 slice_bounds-write_checked-end-2 c =
-    let s = c in
-    sym (length-take-le (length s.args.rest.now / 2) s.args.rest.now (omega arith))
+    sym (length-take-le (length c.args.rest.now / 2) c.args.rest.now (omega arith))
 
 pub write_checked-requires : goal.write_checked-requires
 write_checked-requires c =
-    let s = c in
     record {
-      rest_len = first_half_lem s.args.rest.now _ s.requires.rest_len;
-      below = s.requires.below;
+      rest_len = first_half_lem c.args.rest.now _ c.requires.rest_len;
+      below = c.requires.below;
     }
 
 pub spread-requires : goal.spread-requires
 spread-requires c =
-    let k = c in
-    let s = k in
-    half_whole s.args.rest.now k.write_checked.new.rest _ s.requires.rest_len (ap length k.write_checked.ensures ∙ checked_long s.args.q s.args.v s.args.u s.args.w s.args.bound s.args.successes s.args.results.now)
+    half_whole c.args.rest.now c.write_checked.new.rest _ c.requires.rest_len (ap length c.write_checked.ensures ∙ checked_long c.args.q c.args.v c.args.u c.args.w c.args.bound c.args.successes c.args.results.now)
 
 pub returns : goal.returns
 returns c =
-    let p = c in
-    let k = p in
-    let s = k in
-    p.spread.ensures ∙ half_written s.args.rest.now k.write_checked.new.rest _ _ s.requires.rest_len (ap length k.write_checked.ensures ∙ checked_long s.args.q s.args.v s.args.u s.args.w s.args.bound s.args.successes s.args.results.now) k.write_checked.ensures
+    c.spread.ensures ∙ half_written c.args.rest.now c.write_checked.new.rest _ _ c.requires.rest_len (ap length c.write_checked.ensures ∙ checked_long c.args.q c.args.v c.args.u c.args.w c.args.bound c.args.successes c.args.results.now) c.write_checked.ensures

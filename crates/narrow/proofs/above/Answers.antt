@@ -5,6 +5,4 @@ use Rattle.narrow.proofs.above.Goals as goal
 
 pub returns : goal.returns
 returns c =
-    let w = c in
-    let s = w in
-    above_by_bits s.args.n.low s.args.n.high s.args.bound _ _ (search rules) (search rules) (search rules) (search rules) s.requires w.wrapping_sub_u64-less_high.ensures.value w.wrapping_sub_u64-rest.ensures.value
+    above_by_bits c.args.n.low c.args.n.high c.args.bound _ _ (search rules) (search rules) (search rules) (search rules) c.requires c.wrapping_sub_u64-less_high.ensures.value c.wrapping_sub_u64-rest.ensures.value

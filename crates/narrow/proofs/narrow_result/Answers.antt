@@ -25,35 +25,25 @@ result_below s = search rules
 
 pub overflow_mul-negative-3 : goal.overflow_mul-negative-3
 overflow_mul-negative-3 c =
-    let k = c in
-    omega (arith, rest_fits k.args.f k.complement-c.result.low k.requires.1.low_digit, low_below k.before)
+    omega (arith, rest_fits c.args.f c.complement-c.result.low c.requires.1.low_digit, low_below c.before)
 
 pub overflow_sub-negative-3 : goal.overflow_sub-negative-3
 overflow_sub-negative-3 c =
-    let k = c in
-    let s = k in
-    negative_fits k.complement-c.result.low k.complement-c.result.high (number_of s.args.r) k.complement-c.ensures s.args.f s.requires.1.low_digit s.requires.1.negative
+    negative_fits c.complement-c.result.low c.complement-c.result.high (number_of c.args.r) c.complement-c.ensures c.args.f c.requires.1.low_digit c.requires.1.negative
 
 pub overflow_mul-result : goal.overflow_mul-result
 overflow_mul-result c =
-    let s = c in
-    omega (arith, rest_fits s.args.g s.args.r.low s.requires.1.high_digit, result_below s.before.before.before)
+    omega (arith, rest_fits c.args.g c.args.r.low c.requires.1.high_digit, result_below c.before.before.before)
 
 pub overflow_mul-result-2 : goal.overflow_mul-result-2
 overflow_mul-result-2 c =
-    let k = c in
-    let s = k in
-    let n : ℕ = s.args.f * 2 ^ 63 + (1 - s.args.f) * p64 - (1 - s.args.f) * k.complement-c.result.low in
-    omega (arith, times_fits s.args.g n s.requires.1.high_digit, negative_word s.args.f k.complement-c.result.low s.requires.1.low_digit)
+    let n : ℕ = c.args.f * 2 ^ 63 + (1 - c.args.f) * p64 - (1 - c.args.f) * c.complement-c.result.low in
+    omega (arith, times_fits c.args.g n c.requires.1.high_digit, negative_word c.args.f c.complement-c.result.low c.requires.1.low_digit)
 
 pub overflow_add-result : goal.overflow_add-result
 overflow_add-result c =
-    let k = c in
-    let s = k in
-    omega (arith, either_fits s.args.g s.args.r.low _ s.requires.1.high_digit (result_below s.before.before.before) (negative_word s.args.f k.complement-c.result.low s.requires.1.low_digit))
+    omega (arith, either_fits c.args.g c.args.r.low _ c.requires.1.high_digit (result_below c.before.before.before) (negative_word c.args.f c.complement-c.result.low c.requires.1.low_digit))
 
 pub returns : goal.returns
 returns c =
-    let k = c in
-    let s = k in
-    result_is s.args.r.low s.args.r.high s.args.f s.args.g _ s.requires.1 (negative_is k.complement-c.result.low k.complement-c.result.high (number_of s.args.r) k.complement-c.ensures s.args.f s.requires.1.low_digit s.requires.1.negative)
+    result_is c.args.r.low c.args.r.high c.args.f c.args.g _ c.requires.1 (negative_is c.complement-c.result.low c.complement-c.result.high (number_of c.args.r) c.complement-c.ensures c.args.f c.requires.1.low_digit c.requires.1.negative)

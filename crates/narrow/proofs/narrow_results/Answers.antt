@@ -18,9 +18,7 @@ After-element = lts.After-element tie.the-claims reads.Pre reads.Post goal.the-i
 
 pub loop-t-init : goal.loop-t-init
 loop-t-init c =
-    let w = c in
-    let s = w in
-    (refl, over_begin (narrowed s.args.bound) (class_of s.args.bound) s.args.results.now s.args.row.now s.requires.results_len _ w.write_classes.ensures)
+    (refl, over_begin (narrowed c.args.bound) (class_of c.args.bound) c.args.results.now c.args.row.now c.requires.results_len _ c.write_classes.ensures)
 
 -- a result stands at t
 inside : (l : In-loop-t) → l.loop-t.t < length (elements_of l.args.results.now)
@@ -31,10 +29,9 @@ inside l =
 -- an element, and where it lies
 here : (c : After-element) → (number_of c.element.result < p128) × (get_or c.loop-t.row c.loop-t.t 0 ≡ class_of c.args.bound (number_of c.element.result))
 here c =
-    let l = c in
-    let s = l in (
-      rw c.element.ensures (below_at p128 (elements_of s.args.results.now) s.requires.below.0 l.loop-t.t (inside l.before.before)),
-      over_at (narrowed s.args.bound) (class_of s.args.bound) s.args.results.now s.args.row.now s.requires.results_len l.loop-t.row l.loop-t.t l.loop-t.invariant.1 l.loop-t-test.true ∙ ap (class_of s.args.bound) (sym c.element.ensures),
+    let s = c in (
+      rw c.element.ensures (below_at p128 (elements_of s.args.results.now) s.requires.below.0 c.loop-t.t (inside c.before.before)),
+      over_at (narrowed s.args.bound) (class_of s.args.bound) s.args.results.now s.args.row.now s.requires.results_len c.loop-t.row c.loop-t.t c.loop-t.invariant.1 c.loop-t-test.true ∙ ap (class_of s.args.bound) (sym c.element.ensures),
     )
 
 pub element-requires : goal.element-requires
@@ -42,31 +39,22 @@ element-requires c = inside c.before.before
 
 pub narrow_result-requires : goal.narrow_result-requires
 narrow_result-requires c =
-    let s = c in
     let h = here c.before in
-    (h.0, sorted_by s.args.bound _ _ s.requires.below.1.0 s.requires.below.1.1 h.0 h.1)
+    (h.0, sorted_by c.args.bound _ _ c.requires.below.1.0 c.requires.below.1.1 h.0 h.1)
 
 pub loop-t-smaller : goal.loop-t-smaller
 loop-t-smaller c =
-    let l = c in
-    let s = l in
-    omega (arith, over_length (narrowed s.args.bound) (class_of s.args.bound) s.args.results.now s.args.row.now s.requires.results_len l.loop-t.row l.loop-t.t l.loop-t.invariant.1, s.requires.results_len)
+    omega (arith, over_length (narrowed c.args.bound) (class_of c.args.bound) c.args.results.now c.args.row.now c.requires.results_len c.loop-t.row c.loop-t.t c.loop-t.invariant.1, c.requires.results_len)
 
 pub loop-t-preserved : goal.loop-t-preserved
 loop-t-preserved c =
-    let l = c in
-    let s = l in
     let h = here c.before.before in
-    (length-set l.loop-t.row l.loop-t.t _ ∙ l.loop-t.invariant.0, over_turn (narrowed s.args.bound) (class_of s.args.bound) s.args.results.now s.args.row.now s.requires.results_len l.loop-t.row l.loop-t.t _ _ l.loop-t.invariant.1 l.loop-t-test.true c.element.ensures (c.narrow_result.ensures ∙ narrowed_by s.args.bound _ _ s.requires.below.1.0 s.requires.below.1.1 h.0 h.1))
+    (length-set c.loop-t.row c.loop-t.t _ ∙ c.loop-t.invariant.0, over_turn (narrowed c.args.bound) (class_of c.args.bound) c.args.results.now c.args.row.now c.requires.results_len c.loop-t.row c.loop-t.t _ _ c.loop-t.invariant.1 c.loop-t-test.true c.element.ensures (c.narrow_result.ensures ∙ narrowed_by c.args.bound _ _ c.requires.below.1.0 c.requires.below.1.1 h.0 h.1))
 
 pub shape_of-row : goal.shape_of-row
 shape_of-row c =
-    let l = c in
-    let s = l in
-    over_length (narrowed s.args.bound) (class_of s.args.bound) s.args.results.now s.args.row.now s.requires.results_len l.loop-t.row l.loop-t.t l.loop-t.invariant.1
+    over_length (narrowed c.args.bound) (class_of c.args.bound) c.args.results.now c.args.row.now c.requires.results_len c.loop-t.row c.loop-t.t c.loop-t.invariant.1
 
 pub returns : goal.returns
 returns c =
-    let l = c in
-    let s = l in
-    over_end (narrowed s.args.bound) (class_of s.args.bound) s.args.results.now s.args.row.now s.requires.results_len l.loop-t.row l.loop-t.t l.loop-t.invariant.1 c.loop-t-test.false
+    over_end (narrowed c.args.bound) (class_of c.args.bound) c.args.results.now c.args.row.now c.requires.results_len c.loop-t.row c.loop-t.t c.loop-t.invariant.1 c.loop-t-test.false

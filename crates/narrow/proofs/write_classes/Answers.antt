@@ -25,21 +25,15 @@ element-requires c = inside c.before
 
 pub class_of-requires : goal.class_of-requires
 class_of-requires c =
-    let l = c in
-    let s = l in
-    (rw c.element.ensures (below_at p128 (elements_of s.args.results.now) s.requires.below.0 l.loop-t.t (inside l.before.before)), s.requires.below.1)
+    (rw c.element.ensures (below_at p128 (elements_of c.args.results.now) c.requires.below.0 c.loop-t.t (inside c.before.before)), c.requires.below.1)
 
 pub loop-t-preserved : goal.loop-t-preserved
 loop-t-preserved c =
-    let l = c in
-    let s = l in
-    turn (class_of s.args.bound) s.args.results.now s.args.row.now s.requires.results_len l.loop-t.row l.loop-t.t _ _ l.loop-t.invariant (omega arith) c.element.ensures c.class_of.ensures
+    turn (class_of c.args.bound) c.args.results.now c.args.row.now c.requires.results_len c.loop-t.row c.loop-t.t _ _ c.loop-t.invariant (omega arith) c.element.ensures c.class_of.ensures
 
 pub shape_of-row : goal.shape_of-row
 shape_of-row c = c.loop-t.invariant.1
 
 pub returns : goal.returns
 returns c =
-    let l = c in
-    let s = l in
-    l.loop-t.invariant.2 ∙ walked_end _ _ l.loop-t.t (long (class_of s.args.bound) s.args.results.now s.args.row.now s.requires.results_len) (omega arith)
+    c.loop-t.invariant.2 ∙ walked_end _ _ c.loop-t.t (long (class_of c.args.bound) c.args.results.now c.args.row.now c.requires.results_len) (omega arith)

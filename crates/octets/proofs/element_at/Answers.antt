@@ -12,10 +12,8 @@ eight at = omega arith
 
 pub number8-requires : goal.number8-requires
 number8-requires c =
-    let s = c in
-    part_long s.args.bytes.now s.args.at 8 s.requires
+    part_long c.args.bytes.now c.args.at 8 c.requires
 
 pub returns : goal.returns
 returns c =
-    let s = c in
-    c.number8.ensures ∙ ap (λ (n : ℕ). from_bytes (take n (drop s.args.at s.args.bytes.now))) (eight s.args.at)
+    c.number8.ensures ∙ ap (λ (n : ℕ). from_bytes (take n (drop c.args.at c.args.bytes.now))) (eight c.args.at)

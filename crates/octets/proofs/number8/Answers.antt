@@ -4,5 +4,4 @@ use Rattle.octets.proofs.number8.Goals as goal
 
 pub returns : goal.returns
 returns c =
-    let b = c in
-    of_eight _ _ _ b.requires b.number4-low.ensures.0 c.number4-high.ensures.0
+    of_eight _ _ _ c.requires c.number4-low.ensures.0 c.number4-high.ensures.0

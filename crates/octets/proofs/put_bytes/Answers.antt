@@ -6,5 +6,4 @@ use Rattle.octets.proofs.put_bytes.Goals as goal
 
 pub returns : goal.returns
 returns c =
-    let s = c in
-    (rw c.copy_bytes.ensures (part_pasted s.args.at (length s.args.from.now) s.args.row.now s.args.from.now refl), refl)
+    (rw c.copy_bytes.ensures (part_pasted c.args.at (length c.args.from.now) c.args.row.now c.args.from.now refl), refl)

@@ -9,6 +9,5 @@ use Rattle.octets.proofs.put_elements.Goals as goal
 
 pub returns : goal.returns
 returns c =
-    let s = c in
-    let e = s.args.elements.now in
-    (rw c.write_elements.ensures (part_pasted s.args.at (8 * length e) s.args.row.now (element_bytes e) (length-element_bytes e)), refl)
+    let e = c.args.elements.now in
+    (rw c.write_elements.ensures (part_pasted c.args.at (8 * length e) c.args.row.now (element_bytes e) (length-element_bytes e)), refl)

@@ -5,5 +5,4 @@ use Rattle.octets.proofs.put_number.Goals as goal
 
 pub returns : goal.returns
 returns c =
-    let s = c in
-    (number_pasted s.args.at s.args.size s.args.x s.args.row.now _ s.requires c.write_number.ensures, refl)
+    (number_pasted c.args.at c.args.size c.args.x c.args.row.now _ c.requires c.write_number.ensures, refl)

@@ -12,8 +12,7 @@ use Rattle.octets.proofs.put_sums.Goals as goal
 
 pub returns : goal.returns
 returns c =
-    let s = c in
-    let h = s.args.share.now in
-    let e = elements_in (length h) s.args.old.now in
-    let l = length-add_rows p64 e h (length-elements_in (length h) s.args.old.now) ∙ length-elements_in (length h) s.args.old.now in
-    (rw c.write_sums.ensures (part_pasted s.args.at (8 * length h) s.args.row.now (element_bytes (add_rows p64 e h)) (length-element_bytes (add_rows p64 e h) ∙ ap (λ (n : ℕ). 8 * n) l)), refl)
+    let h = c.args.share.now in
+    let e = elements_in (length h) c.args.old.now in
+    let l = length-add_rows p64 e h (length-elements_in (length h) c.args.old.now) ∙ length-elements_in (length h) c.args.old.now in
+    (rw c.write_sums.ensures (part_pasted c.args.at (8 * length h) c.args.row.now (element_bytes (add_rows p64 e h)) (length-element_bytes (add_rows p64 e h) ∙ ap (λ (n : ℕ). 8 * n) l)), refl)

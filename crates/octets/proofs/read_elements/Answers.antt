@@ -22,21 +22,15 @@ loop-i-init c = (search rules, refl, refl)
 
 pub number8-requires : goal.number8-requires
 number8-requires c =
-    let l = c in
-    let s = l in
-    part_long s.args.bytes.now (8 * l.loop-i.i) 8 (omega arith)
+    part_long c.args.bytes.now (8 * c.loop-i.i) 8 (omega arith)
 
 pub loop-i-preserved : goal.loop-i-preserved
 loop-i-preserved c =
-    let l = c in
-    let s = l in
-    turn s.args.bytes.now s.args.row.now l.loop-i.row l.loop-i.i _ l.loop-i.invariant (omega arith) c.number8.ensures
+    turn c.args.bytes.now c.args.row.now c.loop-i.row c.loop-i.i _ c.loop-i.invariant (omega arith) c.number8.ensures
 
 pub shape_of-row : goal.shape_of-row
 shape_of-row c = c.loop-i.invariant.1
 
 pub returns : goal.returns
 returns c =
-    let l = c in
-    let s = l in
-    l.loop-i.invariant.2 ∙ walked_end _ _ l.loop-i.i (length-elements_in (length s.args.row.now) s.args.bytes.now) (omega arith)
+    c.loop-i.invariant.2 ∙ walked_end _ _ c.loop-i.i (length-elements_in (length c.args.row.now) c.args.bytes.now) (omega arith)

@@ -11,20 +11,15 @@ loop-i-init c = (search rules, refl, elements_start c.args.elements.now c.args.r
 
 pub write_element-requires : goal.write_element-requires
 write_element-requires c =
-    let l = c in
-    part_long l.loop-i.row (8 * l.loop-i.i) 8 (omega arith)
+    part_long c.loop-i.row (8 * c.loop-i.i) 8 (omega arith)
 
 pub loop-i-preserved : goal.loop-i-preserved
 loop-i-preserved c =
-    let l = c in
-    let s = l in
-    (omega arith, search rules, elements_written s.args.elements.now s.args.row.now l.loop-i.row _ l.loop-i.i (omega arith) s.requires l.loop-i.invariant.2 c.write_element.ensures)
+    (omega arith, search rules, elements_written c.args.elements.now c.args.row.now c.loop-i.row _ c.loop-i.i (omega arith) c.requires c.loop-i.invariant.2 c.write_element.ensures)
 
 pub shape_of-row : goal.shape_of-row
 shape_of-row c = c.loop-i.invariant.1
 
 pub returns : goal.returns
 returns c =
-    let l = c in
-    let s = l in
-    elements_end s.args.elements.now s.args.row.now l.loop-i.row l.loop-i.i s.requires (omega arith) l.loop-i.invariant.2
+    elements_end c.args.elements.now c.args.row.now c.loop-i.row c.loop-i.i c.requires (omega arith) c.loop-i.invariant.2

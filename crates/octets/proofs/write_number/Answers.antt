@@ -24,15 +24,11 @@ loop-i-init c = (search rules, refl, refl, sym (div-one _))
 
 pub loop-i-preserved : goal.loop-i-preserved
 loop-i-preserved c =
-    let l = c in
-    let s = c in
-    turn s.args.x s.args.row.now l.loop-i.row l.loop-i.rest l.loop-i.i l.loop-i.invariant (omega arith)
+    turn c.args.x c.args.row.now c.loop-i.row c.loop-i.rest c.loop-i.i c.loop-i.invariant (omega arith)
 
 pub shape_of-row : goal.shape_of-row
 shape_of-row c = c.loop-i.invariant.1
 
 pub returns : goal.returns
 returns c =
-    let l = c in
-    let s = c in
-    l.loop-i.invariant.2 ∙ walked_end _ _ l.loop-i.i (length_to_bytes (length s.args.row.now) s.args.x) (omega arith)
+    c.loop-i.invariant.2 ∙ walked_end _ _ c.loop-i.i (length_to_bytes (length c.args.row.now) c.args.x) (omega arith)

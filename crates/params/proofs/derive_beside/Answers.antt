@@ -24,8 +24,7 @@ made c = record { param = _; derivable = (passed c.before).1; is = c.new-pine.en
 
 pub returns-then-answer-ne0 : goal.returns-then-answer-ne0
 returns-then-answer-ne0 c =
-    let b = c in
-    simp (c.none-then-answer-ne0-2.ensures, c.none-then-answer-ne0.ensures, c.none.ensures, ne_eqb _ _ b.if-answer-ne0.true)
+    simp (c.none-then-answer-ne0-2.ensures, c.none-then-answer-ne0.ensures, c.none.ensures, ne_eqb _ _ c.if-answer-ne0.true)
 
 pub new-pine-requires : goal.new-pine-requires
 new-pine-requires c = (passed c).1
@@ -42,6 +41,5 @@ lengths_sq_norm_equal-requires c = made c.before.before
 pub returns : goal.returns
 unfolding pine_of
 returns c =
-    let n = c in
     simp
-    (c.lengths_sq_norm_equal.ensures, c.lengths.ensures, c.stream_len.ensures, n.new-pine.ensures, (passed n.before.before.before.before).0)
+    (c.lengths_sq_norm_equal.ensures, c.lengths.ensures, c.stream_len.ensures, c.new-pine.ensures, (passed c.before.before.before.before).0)

@@ -27,9 +27,8 @@ met c = ap (λ (a : Answer). a.number) (sym c.check_param-inputs.ensures) ∙ c.
 
 pub returns-then-inputs-ne0 : goal.returns-then-inputs-ne0
 returns-then-inputs-ne0 c =
-    let b = c in
-    let a = b.args in
-    refused_is a.param a.full.now _ _ (part_stopped a.param a.full.now _ b.check_param-inputs.ensures c.if-inputs-ne0.true) c.if-inputs-ne0.true c.refused.ensures
+    let a = c.args in
+    refused_is a.param a.full.now _ _ (part_stopped a.param a.full.now _ c.check_param-inputs.ensures c.if-inputs-ne0.true) c.if-inputs-ne0.true c.refused.ensures
 
 pub new-pine-requires : goal.new-pine-requires
 new-pine-requires c = derivable_64 (param_accepted Field64 _ (met c.before))
@@ -38,20 +37,16 @@ new-pine-requires c = derivable_64 (param_accepted Field64 _ (met c.before))
 ruled : (c : After-or-answer)
     → ◌≡◌ {A = Answer} c.or-answer.result (in_order (part_rules Field64 c.args.param c.args.full.now))
 ruled c =
-    let n = c in
-    let a = n.args in
+    let a = c.args in
     c.or-answer.ensures
-    ∙ part_answer a.param a.full.now _ _ (met n.before.before.before.before.before) (c.check_len-row_1.ensures ∙ ap (row_rule 1 (length a.full.now)) (input_is a.param _ _ n.new-pine.ensures c.input_len.ensures)) c.check_elements.ensures
+    ∙ part_answer a.param a.full.now _ _ (met c.before.before.before.before.before) (c.check_len-row_1.ensures ∙ ap (row_rule 1 (length a.full.now)) (input_is a.param _ _ c.new-pine.ensures c.input_len.ensures)) c.check_elements.ensures
 
 pub returns-then-answer-ne0 : goal.returns-then-answer-ne0
 returns-then-answer-ne0 c =
-    let o = c in
-    let a = o.args in
-    refused_is a.param a.full.now _ _ (ruled o.before.before.before.before) c.if-answer-ne0.true c.refused-then-answer-ne0.ensures
+    let a = c.args in
+    refused_is a.param a.full.now _ _ (ruled c.before.before.before.before) c.if-answer-ne0.true c.refused-then-answer-ne0.ensures
 
 pub returns : goal.returns
 returns c =
-    let o = c in
-    let n = o in
-    let a = n.args in
-    accepted_is a.param a.full.now _ _ (ruled o.before.before.before) c.if-answer-ne0.false n.new-pine.ensures
+    let a = c.args in
+    accepted_is a.param a.full.now _ _ (ruled c.before.before.before) c.if-answer-ne0.false c.new-pine.ensures

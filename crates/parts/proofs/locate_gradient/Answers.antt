@@ -9,9 +9,8 @@ use Rattle.parts.proofs.locate_gradient.Goals as goal
 pub returns : goal.returns
 unfolding gradient_part_of gradient_part pine_of
 returns c =
-    let b = c in
-    let a = b.args in
-    let both = located a.param a.full.now (λ (r : Pine). 0) (λ (r : Pine). r.dimension) refl refl _ b.check_part-verdict.ensures in
+    let a = c.args in
+    let both = located a.param a.full.now (λ (r : Pine). 0) (λ (r : Pine). r.dimension) refl refl _ c.check_part-verdict.ensures in
     record {
       value = both.0;
       full_value = both.1;

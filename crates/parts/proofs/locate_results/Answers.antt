@@ -9,9 +9,8 @@ use Rattle.parts.proofs.locate_results.Goals as goal
 pub returns : goal.returns
 unfolding results_part_of results_part pine_of
 returns c =
-    let b = c in
-    let a = b.args in
-    let both = located a.param a.full.now (λ (r : Pine). r.encoded_input_len) (λ (r : Pine). r.num_wr_tests) refl refl _ b.check_part-verdict.ensures in
+    let a = c.args in
+    let both = located a.param a.full.now (λ (r : Pine). r.encoded_input_len) (λ (r : Pine). r.num_wr_tests) refl refl _ c.check_part-verdict.ensures in
     record {
       value = both.0;
       full_value = both.1;

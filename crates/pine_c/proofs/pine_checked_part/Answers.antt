@@ -10,9 +10,8 @@ use Rattle.pine_c.proofs.pine_checked_part.Goals as goal
 
 pub returns : goal.returns
 returns c =
-    let s = c in
     let e = c.param_of.ensures in
     record {
-      value = c.locate_checked.ensures.value ∙ ap (λ (i : PineParam). part_at (in_order (part_rules Field64 i s.args.full.now)) i.dimension (bit_checked_len_of i)) e;
-      full_value = c.locate_checked.ensures.full_value ∙ ap (λ (i : PineParam). checked_part_of Field64 i s.args.full.now) e;
+      value = c.locate_checked.ensures.value ∙ ap (λ (i : PineParam). part_at (in_order (part_rules Field64 i c.args.full.now)) i.dimension (bit_checked_len_of i)) e;
+      full_value = c.locate_checked.ensures.full_value ∙ ap (λ (i : PineParam). checked_part_of Field64 i c.args.full.now) e;
     }

@@ -7,10 +7,8 @@ use Rattle.pine_c.proofs.pine_cut.Goals as goal
 
 pub returns-then-leader-helper : goal.returns-then-leader-helper
 returns-then-leader-helper c =
-    let s = c in
-    c.cut.ensures ∙ ap (λ (i : PineParam). cut_of Field64 i s.args.gradient.now s.args.nonce.now s.args.seeds.now s.args.leader.now s.args.helper.now s.args.given.now) c.param_of-param.ensures
+    c.cut.ensures ∙ ap (λ (i : PineParam). cut_of Field64 i c.args.gradient.now c.args.nonce.now c.args.seeds.now c.args.leader.now c.args.helper.now c.args.given.now) c.param_of-param.ensures
 
 pub returns : goal.returns
 returns c =
-    let s = c in
-    c.cut-answer.ensures ∙ ap (λ (i : PineParam). cut_of Field64 i s.args.gradient.now s.args.nonce.now s.args.seeds.now s.args.leader.now s.args.helper.now s.args.given.now) c.param_of-param.ensures
+    c.cut-answer.ensures ∙ ap (λ (i : PineParam). cut_of Field64 i c.args.gradient.now c.args.nonce.now c.args.seeds.now c.args.leader.now c.args.helper.now c.args.given.now) c.param_of-param.ensures

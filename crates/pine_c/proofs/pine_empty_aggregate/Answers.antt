@@ -7,5 +7,4 @@ use Rattle.pine_c.proofs.pine_empty_aggregate.Goals as goal
 
 pub returns : goal.returns
 returns c =
-    let s = c in
-    c.empty_aggregate.ensures ∙ ap (λ (i : PineParam). empty_of Field64 i s.args.row.now) c.param_of.ensures
+    c.empty_aggregate.ensures ∙ ap (λ (i : PineParam). empty_of Field64 i c.args.row.now) c.param_of.ensures

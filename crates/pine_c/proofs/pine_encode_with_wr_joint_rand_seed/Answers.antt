@@ -9,5 +9,4 @@ use Rattle.pine_c.proofs.pine_encode_with_wr_joint_rand_seed.Goals as goal
 
 pub returns : goal.returns
 returns c =
-    let s = c in
-    c.encode_with_wr_joint_rand_seed-answer.ensures ∙ ap (λ (i : PineParam). encode_of Field64 i s.args.gradient.now (wr_stream (stream_len_of i.num_wr_tests i.dimension) s.args.seed.now) s.args.measurement.now s.args.results.now) c.param_of-param.ensures
+    c.encode_with_wr_joint_rand_seed-answer.ensures ∙ ap (λ (i : PineParam). encode_of Field64 i c.args.gradient.now (wr_stream (stream_len_of i.num_wr_tests i.dimension) c.args.seed.now) c.args.measurement.now c.args.results.now) c.param_of-param.ensures

@@ -6,5 +6,4 @@ use Rattle.pine_c.proofs.pine_file_add.Goals as goal
 
 pub returns : goal.returns
 returns c =
-    let s = c in
-    c.file_add.ensures ∙ ap (λ (i : PineParam). add_of i s.args.key.bytes s.args.old.now s.args.share.now s.args.second.now) c.param_of.ensures
+    c.file_add.ensures ∙ ap (λ (i : PineParam). add_of i c.args.key.bytes c.args.old.now c.args.share.now c.args.second.now) c.param_of.ensures

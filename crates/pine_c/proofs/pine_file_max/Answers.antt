@@ -6,5 +6,4 @@ use Rattle.pine_c.proofs.pine_file_max.Goals as goal
 
 pub returns : goal.returns
 returns c =
-    let s = c in
-    c.file_max.ensures ∙ ap (λ (i : PineParam). max_of i s.args.reports) c.param_of.ensures
+    c.file_max.ensures ∙ ap (λ (i : PineParam). max_of i c.args.reports) c.param_of.ensures

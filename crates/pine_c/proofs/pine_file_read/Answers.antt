@@ -6,5 +6,4 @@ use Rattle.pine_c.proofs.pine_file_read.Goals as goal
 
 pub returns : goal.returns
 returns c =
-    let s = c in
-    c.file_read.ensures ∙ ap (λ (i : PineParam). read_of i s.args.file.now s.args.contents.now s.args.bodies.now) c.param_of.ensures
+    c.file_read.ensures ∙ ap (λ (i : PineParam). read_of i c.args.file.now c.args.contents.now c.args.bodies.now) c.param_of.ensures

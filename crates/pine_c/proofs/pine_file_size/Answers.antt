@@ -6,5 +6,4 @@ use Rattle.pine_c.proofs.pine_file_size.Goals as goal
 
 pub returns : goal.returns
 returns c =
-    let s = c in
-    c.file_size.ensures ∙ ap (λ (i : PineParam). size_of i s.args.keys.now) c.param_of.ensures
+    c.file_size.ensures ∙ ap (λ (i : PineParam). size_of i c.args.keys.now) c.param_of.ensures

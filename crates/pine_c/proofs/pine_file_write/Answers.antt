@@ -6,5 +6,4 @@ use Rattle.pine_c.proofs.pine_file_write.Goals as goal
 
 pub returns : goal.returns
 returns c =
-    let s = c in
-    c.file_write.ensures ∙ ap (λ (i : PineParam). write_of i s.args.count s.args.contents.now s.args.bodies.now s.args.file.now) c.param_of.ensures
+    c.file_write.ensures ∙ ap (λ (i : PineParam). write_of i c.args.count c.args.contents.now c.args.bodies.now c.args.file.now) c.param_of.ensures

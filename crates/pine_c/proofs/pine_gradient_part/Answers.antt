@@ -9,9 +9,8 @@ use Rattle.pine_c.proofs.pine_gradient_part.Goals as goal
 
 pub returns : goal.returns
 returns c =
-    let s = c in
     let e = c.param_of.ensures in
     record {
-      value = c.locate_gradient.ensures.value ∙ ap (λ (i : PineParam). part_at (in_order (part_rules Field64 i s.args.full.now)) 0 i.dimension) e;
-      full_value = c.locate_gradient.ensures.full_value ∙ ap (λ (i : PineParam). gradient_part_of Field64 i s.args.full.now) e;
+      value = c.locate_gradient.ensures.value ∙ ap (λ (i : PineParam). part_at (in_order (part_rules Field64 i c.args.full.now)) 0 i.dimension) e;
+      full_value = c.locate_gradient.ensures.full_value ∙ ap (λ (i : PineParam). gradient_part_of Field64 i c.args.full.now) e;
     }

@@ -10,9 +10,8 @@ use Rattle.pine_c.proofs.pine_results_part.Goals as goal
 
 pub returns : goal.returns
 returns c =
-    let s = c in
     let e = c.param_of.ensures in
     record {
-      value = c.locate_results.ensures.value ∙ ap (λ (i : PineParam). part_at (in_order (part_rules Field64 i s.args.full.now)) (encoded_input_len_of i) i.num_wr_tests) e;
-      full_value = c.locate_results.ensures.full_value ∙ ap (λ (i : PineParam). results_part_of Field64 i s.args.full.now) e;
+      value = c.locate_results.ensures.value ∙ ap (λ (i : PineParam). part_at (in_order (part_rules Field64 i c.args.full.now)) (encoded_input_len_of i) i.num_wr_tests) e;
+      full_value = c.locate_results.ensures.full_value ∙ ap (λ (i : PineParam). results_part_of Field64 i c.args.full.now) e;
     }

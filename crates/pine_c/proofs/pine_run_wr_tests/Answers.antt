@@ -7,5 +7,4 @@ use Rattle.pine_c.proofs.pine_run_wr_tests.Goals as goal
 
 pub returns : goal.returns
 returns c =
-    let s = c in
-    c.run_wr_tests-answer.ensures ∙ ap (λ (i : PineParam). run_tests_of Field64 i s.args.gradient.now s.args.stream.now s.args.results.now) c.param_of.ensures
+    c.run_wr_tests-answer.ensures ∙ ap (λ (i : PineParam). run_tests_of Field64 i c.args.gradient.now c.args.stream.now c.args.results.now) c.param_of.ensures

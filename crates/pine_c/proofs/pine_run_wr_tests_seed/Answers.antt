@@ -9,10 +9,8 @@ use Rattle.pine_c.proofs.pine_run_wr_tests_seed.Goals as goal
 
 pub returns-then-results-eq0 : goal.returns-then-results-eq0
 returns-then-results-eq0 c =
-    let s = c in
-    c.run_wr_tests_seed.ensures ∙ ap (λ (i : PineParam). run_tests_of Field64 i s.args.gradient.now (wr_stream (stream_len_of i.num_wr_tests i.dimension) s.args.seed.now) s.args.results.now) c.param_of-param.ensures
+    c.run_wr_tests_seed.ensures ∙ ap (λ (i : PineParam). run_tests_of Field64 i c.args.gradient.now (wr_stream (stream_len_of i.num_wr_tests i.dimension) c.args.seed.now) c.args.results.now) c.param_of-param.ensures
 
 pub returns : goal.returns
 returns c =
-    let s = c in
-    c.run_wr_tests_seed-answer.ensures ∙ ap (λ (i : PineParam). run_tests_of Field64 i s.args.gradient.now (wr_stream (stream_len_of i.num_wr_tests i.dimension) s.args.seed.now) s.args.results.now) c.param_of-param.ensures
+    c.run_wr_tests_seed-answer.ensures ∙ ap (λ (i : PineParam). run_tests_of Field64 i c.args.gradient.now (wr_stream (stream_len_of i.num_wr_tests i.dimension) c.args.seed.now) c.args.results.now) c.param_of-param.ensures

@@ -7,5 +7,4 @@ use Rattle.pine_c.proofs.pine_sample.Goals as goal
 
 pub returns : goal.returns
 returns c =
-    let s = c in
-    c.sample.ensures ∙ ap (λ (i : PineParam). sample_of Field64 i s.args.stream.now s.args.share.now) c.param_of.ensures
+    c.sample.ensures ∙ ap (λ (i : PineParam). sample_of Field64 i c.args.stream.now c.args.share.now) c.param_of.ensures

@@ -7,5 +7,4 @@ use Rattle.pine_c.proofs.pine_unmerge.Goals as goal
 
 pub returns : goal.returns
 returns c =
-    let s = c in
-    c.unmerge.ensures ∙ ap (λ (i : PineParam). subtract_of Field64 i s.args.agg.now s.args.other.now) c.param_of.ensures
+    c.unmerge.ensures ∙ ap (λ (i : PineParam). subtract_of Field64 i c.args.agg.now c.args.other.now) c.param_of.ensures

@@ -7,5 +7,4 @@ use Rattle.pine_c.proofs.pine_unshard.Goals as goal
 
 pub returns : goal.returns
 returns c =
-    let s = c in
-    c.unshard.ensures ∙ ap (λ (i : PineParam). unshard_of Field64 i s.args.left.now s.args.right.now s.args.decoded.now) c.param_of.ensures
+    c.unshard.ensures ∙ ap (λ (i : PineParam). unshard_of Field64 i c.args.left.now c.args.right.now c.args.decoded.now) c.param_of.ensures

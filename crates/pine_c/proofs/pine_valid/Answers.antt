@@ -8,9 +8,8 @@ use Rattle.pine_c.proofs.pine_valid.Goals as goal
 
 pub returns : goal.returns
 returns c =
-    let s = c in
     let e = c.param_of.ensures in
     record {
-      value = c.valid.ensures.value ∙ ap (λ (i : PineParam). valid_of Field64 i s.args.num_shares s.args.full.now s.args.joint_rand.now) e;
+      value = c.valid.ensures.value ∙ ap (λ (i : PineParam). valid_of Field64 i c.args.num_shares c.args.full.now c.args.joint_rand.now) e;
       gadget_calls_value = λ z. c.valid.ensures.gadget_calls_value z ∙ ap (λ (i : PineParam). gadget_calls_of i) e;
     }

@@ -8,9 +8,8 @@ use Rattle.pine_c.proofs.pine_valid_sq_norm_equal.Goals as goal
 
 pub returns : goal.returns
 returns c =
-    let s = c in
     let e = c.param_of.ensures in
     record {
-      value = c.valid_sq_norm_equal.ensures.value ∙ ap (λ (i : PineParam). valid_equal_of Field64 i s.args.num_shares s.args.full.now) e;
+      value = c.valid_sq_norm_equal.ensures.value ∙ ap (λ (i : PineParam). valid_equal_of Field64 i c.args.num_shares c.args.full.now) e;
       gadget_calls_value = λ z. c.valid_sq_norm_equal.ensures.gadget_calls_value z ∙ ap (λ (i : PineParam). gadget_calls_norm i) e;
     }

@@ -10,6 +10,4 @@ returns-then-so_far-ne0 c = sym (first_refused _ _ c.if-so_far-ne0.true)
 
 pub returns : goal.returns
 returns c =
-    let b = c in
-    let s = b in
-    elements_after p64 s.args.left.now s.args.right.now s.args.so_far _ _ _ b.if-so_far-ne0.false b.check_elements-in_left.ensures c.check_elements-in_right.ensures c.or.ensures
+    elements_after p64 c.args.left.now c.args.right.now c.args.so_far _ _ _ c.if-so_far-ne0.false c.check_elements-in_left.ensures c.check_elements-in_right.ensures c.or.ensures

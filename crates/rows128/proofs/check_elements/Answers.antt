@@ -5,10 +5,8 @@ use Rattle.rows128.proofs.check_elements.Goals as goal
 
 pub returns-then-bad-row : goal.returns-then-bad-row
 returns-then-bad-row c =
-    let b = c in
-    simp (← b.first_bad-bad.ensures, elements_length b.args.row.now, lt-ltb _ _ c.if-bad-row.true)
+    simp (← c.first_bad-bad.ensures, elements_length c.args.row.now, lt-ltb _ _ c.if-bad-row.true)
 
 pub returns-else-bad-row : goal.returns-else-bad-row
 returns-else-bad-row c =
-    let b = c in
-    simp (c.accepted.ensures, ← b.first_bad-bad.ensures, elements_length b.args.row.now, le-ltb _ _ c.if-bad-row.false)
+    simp (c.accepted.ensures, ← c.first_bad-bad.ensures, elements_length c.args.row.now, le-ltb _ _ c.if-bad-row.false)

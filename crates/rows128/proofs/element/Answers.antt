@@ -9,5 +9,4 @@ read-requires c = c.requires
 
 pub returns : goal.returns
 returns c =
-    let s = c in
-    (λ j. number (c.read.ensures.0 j) (c.read.ensures.1 j)) ∙ sym (element_at s.args.row.now s.args.i s.requires)
+    (λ j. number (c.read.ensures.0 j) (c.read.ensures.1 j)) ∙ sym (element_at c.args.row.now c.args.i c.requires)

@@ -12,8 +12,6 @@ returns-then-so_far-ne0 c = sym (first_refused _ _ c.if-so_far-ne0.true)
 
 pub returns : goal.returns
 returns c =
-    let b = c in
-    let s = b in
-    let left = elements_of s.args.left.now in
-    let right = elements_of s.args.right.now in
-    elements_after p128 left right s.args.so_far _ _ _ b.if-so_far-ne0.false b.check_elements-in_left.ensures (c.check_elements-in_right.ensures ∙ ap (λ (k : ℕ). elements_from p128 k right) (sym (elements_length s.args.left.now))) c.or.ensures
+    let left = elements_of c.args.left.now in
+    let right = elements_of c.args.right.now in
+    elements_after p128 left right c.args.so_far _ _ _ c.if-so_far-ne0.false c.check_elements-in_left.ensures (c.check_elements-in_right.ensures ∙ ap (λ (k : ℕ). elements_from p128 k right) (sym (elements_length c.args.left.now))) c.or.ensures

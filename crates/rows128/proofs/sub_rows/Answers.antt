@@ -20,47 +20,30 @@ loop-i-init c = (omega arith, refl, refl)
 
 pub element-requires : goal.element-requires
 element-requires c =
-    let l = c in
-    let s = l in
-    (pairing_room (sub_mod p128) s.args.agg.now s.args.share.now l.loop-i.agg l.loop-i.i s.requires.whole.0 s.requires.whole.1 l.loop-i.invariant (omega (arith, elements_length s.args.agg.now))).0
+    (pairing_room (sub_mod p128) c.args.agg.now c.args.share.now c.loop-i.agg c.loop-i.i c.requires.whole.0 c.requires.whole.1 c.loop-i.invariant (omega (arith, elements_length c.args.agg.now))).0
 
 pub element-requires-in-loop-i : goal.element-requires-in-loop-i
 element-requires-in-loop-i c =
-    let l = c in
-    let s = l in
-    (pairing_room (sub_mod p128) s.args.agg.now s.args.share.now l.loop-i.agg l.loop-i.i s.requires.whole.0 s.requires.whole.1 l.loop-i.invariant (omega (arith, elements_length s.args.agg.now))).1
+    (pairing_room (sub_mod p128) c.args.agg.now c.args.share.now c.loop-i.agg c.loop-i.i c.requires.whole.0 c.requires.whole.1 c.loop-i.invariant (omega (arith, elements_length c.args.agg.now))).1
 
 pub sub-difference-requires : goal.sub-difference-requires
 sub-difference-requires c =
-    let b = c in
-    let l = b in
-    let s = l in
-    let h = pairing_below (sub_mod p128) s.args.agg.now s.args.share.now l.loop-i.agg l.loop-i.i s.requires.whole.0 s.requires.whole.1 l.loop-i.invariant p128 _ _ s.requires.below (omega (arith, elements_length s.args.agg.now)) b.element.ensures c.element-in-loop-i.ensures in
+    let h = pairing_below (sub_mod p128) c.args.agg.now c.args.share.now c.loop-i.agg c.loop-i.i c.requires.whole.0 c.requires.whole.1 c.loop-i.invariant p128 _ _ c.requires.below (omega (arith, elements_length c.args.agg.now)) c.element.ensures c.element-in-loop-i.ensures in
     (h.0, le_of_lt h.1)
 
 pub store-requires : goal.store-requires
 store-requires c =
-    let l = c in
-    let s = l in
-    (pairing_room (sub_mod p128) s.args.agg.now s.args.share.now l.loop-i.agg l.loop-i.i s.requires.whole.0 s.requires.whole.1 l.loop-i.invariant (omega (arith, elements_length s.args.agg.now))).0
+    (pairing_room (sub_mod p128) c.args.agg.now c.args.share.now c.loop-i.agg c.loop-i.i c.requires.whole.0 c.requires.whole.1 c.loop-i.invariant (omega (arith, elements_length c.args.agg.now))).0
 
 pub loop-i-preserved : goal.loop-i-preserved
 loop-i-preserved c =
-    let k = c in
-    let r = k in
-    let y = r in
-    let x = y in
-    let l = x in
-    let s = l in
-    let d = s.args.agg.now in
-    let e = s.args.share.now in
-    subst (λ (a : List ℕ). Pairing (sub_mod p128) d e a (l.loop-i.i + 1)) (sym k.store.ensures) (pairing_next (sub_mod p128) d e l.loop-i.agg l.loop-i.i s.requires.whole.0 s.requires.whole.1 l.loop-i.invariant _ _ r.sub-difference.result.low r.sub-difference.result.high (omega (arith, elements_length d)) x.element.ensures y.element-in-loop-i.ensures (low_below r.before.before.before.before.before) r.sub-difference.ensures)
+    let d = c.args.agg.now in
+    let e = c.args.share.now in
+    subst (λ (a : List ℕ). Pairing (sub_mod p128) d e a (c.loop-i.i + 1)) (sym c.store.ensures) (pairing_next (sub_mod p128) d e c.loop-i.agg c.loop-i.i c.requires.whole.0 c.requires.whole.1 c.loop-i.invariant _ _ c.sub-difference.result.low c.sub-difference.result.high (omega (arith, elements_length d)) c.element.ensures c.element-in-loop-i.ensures (low_below c.before.before.before.before.before) c.sub-difference.ensures)
 
 pub shape_of-agg : goal.shape_of-agg
 shape_of-agg c = c.loop-i.invariant.1
 
 pub returns : goal.returns
 returns c =
-    let l = c in
-    let s = l in
-    pairing_end (sub_mod p128) s.args.agg.now s.args.share.now l.loop-i.agg l.loop-i.i s.requires.whole.0 s.requires.whole.1 l.loop-i.invariant (omega (arith, elements_length s.args.agg.now))
+    pairing_end (sub_mod p128) c.args.agg.now c.args.share.now c.loop-i.agg c.loop-i.i c.requires.whole.0 c.requires.whole.1 c.loop-i.invariant (omega (arith, elements_length c.args.agg.now))

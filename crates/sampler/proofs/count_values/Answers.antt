@@ -17,20 +17,17 @@ loop-i-init c = counting_none p64 _ _
 
 pub number8-v-requires : goal.number8-v-requires
 number8-v-requires c =
-    let l = c in
-    part_long l.args.bytes.now (8 * l.loop-i.i) 8 (omega arith)
+    part_long c.args.bytes.now (8 * c.loop-i.i) 8 (omega arith)
 
 pub overflow_add-count : goal.overflow_add-count
 overflow_add-count c = omega (arith, one_at_most (ltb c.number8-v.result p64))
 
 pub loop-i-preserved : goal.loop-i-preserved
 loop-i-preserved c =
-    let l = c in
-    let b = l.args.bytes.now in
-    let e : 8 * l.loop-i.i + 8 - 8 * l.loop-i.i ≡ 8 = omega arith in
-    counting_next p64 (length b / 8) b l.loop-i.count l.loop-i.i c.number8-v.result l.loop-i.invariant (omega arith) (c.number8-v.ensures ∙ ap (λ (k : ℕ). from_bytes (take k (drop (8 * l.loop-i.i) b))) e)
+    let b = c.args.bytes.now in
+    let e : 8 * c.loop-i.i + 8 - 8 * c.loop-i.i ≡ 8 = omega arith in
+    counting_next p64 (length b / 8) b c.loop-i.count c.loop-i.i c.number8-v.result c.loop-i.invariant (omega arith) (c.number8-v.ensures ∙ ap (λ (k : ℕ). from_bytes (take k (drop (8 * c.loop-i.i) b))) e)
 
 pub returns : goal.returns
 returns c =
-    let l = c in
-    counting_end p64 _ l.args.bytes.now l.loop-i.count l.loop-i.i l.loop-i.invariant (omega arith)
+    counting_end p64 _ c.args.bytes.now c.loop-i.count c.loop-i.i c.loop-i.invariant (omega arith)

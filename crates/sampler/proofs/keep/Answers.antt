@@ -19,13 +19,11 @@ overflow_add-k c = omega (arith, one_at_most (ltb (get_or c.loop-i.row c.loop-i.
 
 pub loop-i-preserved : goal.loop-i-preserved
 loop-i-preserved c =
-    let l = c in
-    keeping_next p64 l.args.row.now l.loop-i.row l.loop-i.k l.loop-i.i l.loop-i.invariant (omega arith) _ refl
+    keeping_next p64 c.args.row.now c.loop-i.row c.loop-i.k c.loop-i.i c.loop-i.invariant (omega arith) _ refl
 
 pub shape_of-row : goal.shape_of-row
 shape_of-row c = c.loop-i.invariant.1.0
 
 pub returns : goal.returns
 returns c =
-    let l = c in
-    keeping_end p64 l.args.row.now l.loop-i.row l.loop-i.k l.loop-i.i l.loop-i.invariant (omega arith)
+    keeping_end p64 c.args.row.now c.loop-i.row c.loop-i.k c.loop-i.i c.loop-i.invariant (omega arith)

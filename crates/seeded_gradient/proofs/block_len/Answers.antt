@@ -7,12 +7,10 @@ use Rattle.seeded_gradient.proofs.block_len.Goals as goal
 
 pub returns-then-fit-at_most : goal.returns-then-fit-at_most
 returns-then-fit-at_most c =
-    let s = c in
     let r = c.at_most-then-fit-at_most.ensures in
-    ((omega (arith, r, s.requires), omega (arith, r)), inr (omega (arith, r)))
+    ((omega (arith, r, c.requires), omega (arith, r)), inr (omega (arith, r)))
 
 pub returns : goal.returns
 returns c =
-    let s = c in
-    let f = fits_some s.args.tests s.args.per _ _ _ s.requires.1 s.requires.0 refl c.at_most.ensures c.if-fit-at_most.false c.at_most-2.ensures in
+    let f = fits_some c.args.tests c.args.per _ _ _ c.requires.1 c.requires.0 refl c.at_most.ensures c.if-fit-at_most.false c.at_most-2.ensures in
     (f.0, inl f.1)

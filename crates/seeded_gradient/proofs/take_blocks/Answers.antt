@@ -55,22 +55,20 @@ slice_bounds-take_block-end c = omega (arith, c.block_len-first.ensures.0)
 
 pub take_block-taken-requires : goal.take_block-taken-requires
 take_block-taken-requires c =
-    let s = c in
     let b = c.block_len-first in
-    let long = row_long b.result s.args.results.now b.ensures.0.1 in
+    let long = row_long b.result c.args.results.now b.ensures.0.1 in
     record {
-      usable = s.requires.usable;
-      per_nonzero = s.requires.per_nonzero;
-      at_bound = (s.requires.at_bound.0, (omega (arith, long, b.ensures.0.0), omega (arith, long, b.ensures.0.1, s.requires.at_bound.1.1)));
-      fact = subst (Small s.args.per) (sym long) b.ensures.1;
+      usable = c.requires.usable;
+      per_nonzero = c.requires.per_nonzero;
+      at_bound = (c.requires.at_bound.0, (omega (arith, long, b.ensures.0.0), omega (arith, long, b.ensures.0.1, c.requires.at_bound.1.1)));
+      fact = subst (Small c.args.per) (sym long) b.ensures.1;
     }
 
 pub loop-t-init : goal.loop-t-init
 loop-t-init c =
-    let s = c in
     let r = c.take_block-taken in
     let b = c.block_len-first in
-    (omega (arith, b.ensures.0.1, length_front s.args.results.now r.new.results (b.result - 0) r.auto.results), refl, r.ensures.next_value.1, (λ u e d. (e, d)))
+    (omega (arith, b.ensures.0.1, length_front c.args.results.now r.new.results (b.result - 0) r.auto.results), refl, r.ensures.next_value.1, (λ u e d. (e, d)))
 
 pub overflow_sub-results : goal.overflow_sub-results
 overflow_sub-results c = omega (arith, c.loop-t-test.true)
@@ -95,15 +93,14 @@ slice_bounds-take_block-end-in-loop-t c = (block_of c.before).inside
 
 pub take_block-more-requires : goal.take_block-more-requires
 take_block-more-requires c =
-    let s = c in
     let l = c.loop-t in
     let b = block_of c.before.before in
     let long = part_long l.t (l.t + c.block_len.result) l.results (omega arith) b.inside in
     record {
-      usable = s.requires.usable;
-      per_nonzero = s.requires.per_nonzero;
-      at_bound = (l.invariant.2, (omega (arith, long, b.on), omega (arith, long, b.inside, many c.before.before.before.before, s.requires.at_bound.1.1)));
-      fact = subst (Small s.args.per) (sym long) b.small;
+      usable = c.requires.usable;
+      per_nonzero = c.requires.per_nonzero;
+      at_bound = (l.invariant.2, (omega (arith, long, b.on), omega (arith, long, b.inside, many c.before.before.before.before, c.requires.at_bound.1.1)));
+      fact = subst (Small c.args.per) (sym long) b.small;
     }
 
 pub loop-t-smaller : goal.loop-t-smaller
@@ -111,13 +108,12 @@ loop-t-smaller c = omega (arith, (block_of c.before.before.before.before.before.
 
 pub loop-t-preserved : goal.loop-t-preserved
 loop-t-preserved c =
-    let s = c in
     let l = c.loop-t in
     let b = block_of c.before.before.before.before.before.before in
     let e = l.t + c.block_len.result in
     let r = c.take_block-more in
-    let per = s.args.per in
-    let xs = elements p64 s.args.frac_bits s.args.gradient.now in
+    let per = c.args.per in
+    let xs = elements p64 c.args.frac_bits c.args.gradient.now in
     let h : l.t ≤ e = omega arith in
     let long = part_long l.t e l.results h b.inside in (
       omega (arith, b.inside, l.invariant.1),
@@ -135,18 +131,17 @@ shape_of-results c = many c.before.before.before
 
 pub returns : goal.returns
 returns c =
-    let s = c in
     let l = c.loop-t in
     let r = c.take_block-taken in
     let b = c.block_len-first in
-    let per = s.args.per in
-    let u = s.args.stream in
-    let xs = elements p64 s.args.frac_bits s.args.gradient.now in
-    let long = row_long b.result s.args.results.now b.ensures.0.1 in
-    let end : l.t ≡ length s.args.results.now = omega (arith, c.loop-t-test.false, l.invariant.0, l.invariant.1, many c.before.before.before) in
+    let per = c.args.per in
+    let u = c.args.stream in
+    let xs = elements p64 c.args.frac_bits c.args.gradient.now in
+    let long = row_long b.result c.args.results.now b.ensures.0.1 in
+    let end : l.t ≡ length c.args.results.now = omega (arith, c.loop-t-test.false, l.invariant.0, l.invariant.1, many c.before.before.before) in
     let begun = first_done p64 per xs u b.result _ r.new.results _ (r.auto.results ∙ long) long r.ensures.results_after in
     let d = l.invariant.3 u (r.ensures.next_value.0 ∙ ap (λ (n : ℕ). after (n * per) u) long) begun in
     record {
       result_value = r.ensures.norm_value;
-      results_after = all p64 per xs u (length s.args.results.now) l.results (sym (many c.before.before.before)) (subst (λ (t : ℕ). Done p64 per xs u t l.results) end d.1);
+      results_after = all p64 per xs u (length c.args.results.now) l.results (sym (many c.before.before.before)) (subst (λ (t : ℕ). Done p64 per xs u t l.results) end d.1);
     }

@@ -28,8 +28,7 @@ draw_row-requires c = c.helper_stream.ensures.1
 pub sub_rows-requires : goal.sub_rows-requires
 sub_rows-requires c =
     let d = c.draw_row in
-    let s = c in
-    (omega (arith, d.auto.row, s.requires.below.1), (s.requires.below.0, d.ensures.below))
+    (omega (arith, d.auto.row, c.requires.below.1), (c.requires.below.0, d.ensures.below))
 
 pub returns : goal.returns
 returns c =

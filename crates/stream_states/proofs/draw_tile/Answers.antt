@@ -62,11 +62,9 @@ slice_bounds-draw_piece-end-in-loop-t c = piece_in c.before
 
 pub draw_piece-requires : goal.draw_piece-requires
 draw_piece-requires c =
-    let s = c in
-    let i = c in
     let l = c.loop-t in
     let at = l.t * 26 in
-    (piece_long at 26 l.states (state_in i.before.before), next_ready s.args.n s.args.states.now l.t l.states l.buffer l.invariant.3 (at + 26 - at) s.args.count (as_many at 26) i.loop-t-test.true s.requires.count_in_bounds.1)
+    (piece_long at 26 l.states (state_in c.before.before), next_ready c.args.n c.args.states.now l.t l.states l.buffer l.invariant.3 (at + 26 - at) c.args.count (as_many at 26) c.loop-t-test.true c.requires.count_in_bounds.1)
 
 pub overflow_add-t : goal.overflow_add-t
 overflow_add-t c = record { fits = omega (arith, c.loop-t-test.true, c.requires.count_bound.0) }
@@ -76,20 +74,18 @@ loop-t-smaller c = omega (arith, c.loop-t-test.true)
 
 pub loop-t-preserved : goal.loop-t-preserved
 loop-t-preserved c =
-    let s = c in
-    let i = c in
     let l = c.loop-t in
     let d = c.draw_piece in
-    let n = s.args.n in
+    let n = c.args.n in
     let at = l.t * 26 in
     let from = l.t * n in
-    let words : length (take (at + 26 - at) (drop at l.states)) ≡ 26 = piece_long at 26 l.states (state_in i.before.before.before.before.before.before.before.before) in
-    let bytes : length (take (from + n - from) (drop from l.buffer)) ≡ n = piece_long from n l.buffer (piece_in i.before.before.before.before.before.before.before.before) in
-    let room : at ≤ length l.states = omega (arith, state_in i.before.before.before.before.before.before.before.before) in (
-      omega (arith, i.loop-t-test.true),
+    let words : length (take (at + 26 - at) (drop at l.states)) ≡ 26 = piece_long at 26 l.states (state_in c.before.before.before.before.before.before.before.before) in
+    let bytes : length (take (from + n - from) (drop from l.buffer)) ≡ n = piece_long from n l.buffer (piece_in c.before.before.before.before.before.before.before.before) in
+    let room : at ≤ length l.states = omega (arith, state_in c.before.before.before.before.before.before.before.before) in (
+      omega (arith, c.loop-t-test.true),
       same_len_mid at (at + 26 - at) l.states d.new.words d.auto.words ∙ l.invariant.1,
       same_len_mid from (from + n - from) l.buffer d.new.piece d.auto.piece ∙ l.invariant.2,
-      tiled_next n s.args.states.now l.t l.states l.buffer l.invariant.3 (at + 26 - at) _ d.new.words d.new.piece _ (as_many at 26) bytes room (d.auto.words ∙ words) (piece_in i.before.before.before.before.before.before.before.before) d.ensures.piece_after d.ensures.words_after,
+      tiled_next n c.args.states.now l.t l.states l.buffer l.invariant.3 (at + 26 - at) _ d.new.words d.new.piece _ (as_many at 26) bytes room (d.auto.words ∙ words) (piece_in c.before.before.before.before.before.before.before.before) d.ensures.piece_after d.ensures.words_after,
     )
 
 pub shape_of-states : goal.shape_of-states
@@ -100,10 +96,9 @@ shape_of-buffer c = c.loop-t.invariant.2
 
 pub returns : goal.returns
 returns c =
-    let s = c in
     let l = c.loop-t in
-    let end : l.t ≡ s.args.count = omega (arith, c.loop-t-test.false, l.invariant.0) in
-    let w : Tiled s.args.n s.args.states.now s.args.count l.states l.buffer = subst (λ (t : ℕ). Tiled s.args.n s.args.states.now t l.states l.buffer) end l.invariant.3 in
+    let end : l.t ≡ c.args.count = omega (arith, c.loop-t-test.false, l.invariant.0) in
+    let w : Tiled c.args.n c.args.states.now c.args.count l.states l.buffer = subst (λ (t : ℕ). Tiled c.args.n c.args.states.now t l.states l.buffer) end l.invariant.3 in
     record {
       buffer_after = w.1.1;
       states_after = w.0;

@@ -77,17 +77,15 @@ loop-t-smaller c = omega (arith, c.loop-t-test.true)
 
 pub loop-t-preserved : goal.loop-t-preserved
 loop-t-preserved c =
-    let s = c in
-    let i = c in
     let l = c.loop-t in
     let w = c.save in
     let at = l.t * 26 in
-    let h : at ≤ length l.states = omega (arith, state_in i.before.before.before.before.before.before) in (
-      omega (arith, i.loop-t-test.true),
+    let h : at ≤ length l.states = omega (arith, state_in c.before.before.before.before.before.before) in (
+      omega (arith, c.loop-t-test.true),
       same_len_mid at (at + 26 - at) l.states w.new.words w.auto.words ∙ l.invariant.1,
       c.skip-next.ensures.1,
-      starts_put s.args.per _ l.t l.states w.new.words _ s.args.stream l.next refl h (w.auto.words ∙ words l.t l.states (state_in i.before.before.before.before.before.before)) l.invariant.3 l.invariant.4 w.ensures,
-      starts_on s.args.per l.t s.args.stream l.next c.skip-next.result l.invariant.4 c.skip-next.ensures.0,
+      starts_put c.args.per _ l.t l.states w.new.words _ c.args.stream l.next refl h (w.auto.words ∙ words l.t l.states (state_in c.before.before.before.before.before.before)) l.invariant.3 l.invariant.4 w.ensures,
+      starts_on c.args.per l.t c.args.stream l.next c.skip-next.result l.invariant.4 c.skip-next.ensures.0,
     )
 
 pub overflow_mul-from-2 : goal.overflow_mul-from-2
@@ -119,14 +117,13 @@ shape_of-states c =
 
 pub returns : goal.returns
 returns c =
-    let s = c in
     let l = c.loop-t in
     let w = c.save-2 in
-    let per = s.args.per in
-    let t = s.args.count - 1 in
+    let per = c.args.per in
+    let t = c.args.count - 1 in
     let end : l.t ≡ t = omega (arith, c.loop-t-test.false, l.invariant.0) in
-    let all : t + 1 ≡ s.args.count = omega (arith, s.requires.count_nonzero.0.0) in
+    let all : t + 1 ≡ c.args.count = omega (arith, c.requires.count_nonzero.0.0) in
     let h : t * 26 ≤ length l.states = omega (arith, last_in c.before.before.before.before.before) in
-    let before : states_of t l.states ≡ starts_of per t s.args.stream = subst (λ (k : ℕ). states_of k l.states ≡ starts_of per k s.args.stream) end l.invariant.3 in
-    let here : l.next ≡ after (t * per) s.args.stream = l.invariant.4 ∙ ap (λ (k : ℕ). after (k * per) s.args.stream) end in
-    starts_put per s.args.count t l.states w.new.words _ s.args.stream l.next all h (w.auto.words ∙ words t l.states (last_in c.before.before.before.before.before)) before here w.ensures
+    let before : states_of t l.states ≡ starts_of per t c.args.stream = subst (λ (k : ℕ). states_of k l.states ≡ starts_of per k c.args.stream) end l.invariant.3 in
+    let here : l.next ≡ after (t * per) c.args.stream = l.invariant.4 ∙ ap (λ (k : ℕ). after (k * per) c.args.stream) end in
+    starts_put per c.args.count t l.states w.new.words _ c.args.stream l.next all h (w.auto.words ∙ words t l.states (last_in c.before.before.before.before.before)) before here w.ensures

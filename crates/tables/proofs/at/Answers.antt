@@ -8,8 +8,7 @@ use Rattle.tables.proofs.at.Goals as goal
 
 pub returns-then-k-row : goal.returns-then-k-row
 returns-then-k-row c =
-    let s = c in
-    (below_at p64 s.args.row.now s.requires s.args.k (search rules), refl)
+    (below_at p64 c.args.row.now c.requires c.args.k (search rules), refl)
 
 pub returns-else-k-row : goal.returns-else-k-row
 returns-else-k-row c = (search rules, sym (get_or-eq_default c.args.row.now 0 c.if-k-row.false))

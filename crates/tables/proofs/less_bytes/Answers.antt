@@ -24,27 +24,21 @@ plus_byte-sum-requires c = (omega (arith, c.requires.1, c.loop-k-test.true), ome
 
 pub overflow_add-k : goal.overflow_add-k
 overflow_add-k c =
-    let l = c in
-    let s = l in
-    record { fits = step_fits l.loop-k.k (length s.args.bytes.now) c.loop-k-test.true s.well_formed.1.0.0 }
+    record { fits = step_fits c.loop-k.k (length c.args.bytes.now) c.loop-k-test.true c.well_formed.1.0.0 }
 
 pub loop-k-smaller : goal.loop-k-smaller
 loop-k-smaller c = step_less c.loop-k.k (length c.args.bytes.now) c.loop-k-test.true
 
 pub loop-k-preserved : goal.loop-k-preserved
 loop-k-preserved c =
-    let l = c in
-    let s = l in
     let e = c.plus_byte-sum.ensures in
-    (step_le l.loop-k.k (length s.args.bytes.now) c.loop-k-test.true, (step_carries l.loop-k.k l.loop-k.sum.high c.plus_byte-sum.result.high l.loop-k.invariant.1.0 e.1, bytes_next s.args.tables.now s.args.bytes.now l.loop-k.k _ (total_of l.loop-k.sum) _ c.loop-k-test.true l.loop-k.invariant.1.1 e.0))
+    (step_le c.loop-k.k (length c.args.bytes.now) c.loop-k-test.true, (step_carries c.loop-k.k c.loop-k.sum.high c.plus_byte-sum.result.high c.loop-k.invariant.1.0 e.1, bytes_next c.args.tables.now c.args.bytes.now c.loop-k.k _ (total_of c.loop-k.sum) _ c.loop-k-test.true c.loop-k.invariant.1.1 e.0))
 
 pub sub-requires : goal.sub-requires
 sub-requires c = (c.requires.0, rw c.reduced.ensures (mod-lt _ (lit< tt)))
 
 pub returns : goal.returns
 returns c =
-    let l = c in
-    let s = l in
-    let none : drop l.loop-k.k s.args.bytes.now ≡ [] = drop_of_length-le s.args.bytes.now c.loop-k-test.false in
-    let left : total_of l.loop-k.sum ≡ total_of l.loop-k.sum + entries_of s.args.tables.now (32 * l.loop-k.k) (drop l.loop-k.k s.args.bytes.now) = rw none (omega arith) in
-    c.sub.ensures ∙ ap (λ (n : ℕ). sub_mod p64 s.args.r n) (c.reduced.ensures ∙ ap (λ (n : ℕ). n % p64) (left ∙ l.loop-k.invariant.1.1))
+    let none : drop c.loop-k.k c.args.bytes.now ≡ [] = drop_of_length-le c.args.bytes.now c.loop-k-test.false in
+    let left : total_of c.loop-k.sum ≡ total_of c.loop-k.sum + entries_of c.args.tables.now (32 * c.loop-k.k) (drop c.loop-k.k c.args.bytes.now) = rw none (omega arith) in
+    c.sub.ensures ∙ ap (λ (n : ℕ). sub_mod p64 c.args.r n) (c.reduced.ensures ∙ ap (λ (n : ℕ). n % p64) (left ∙ c.loop-k.invariant.1.1))

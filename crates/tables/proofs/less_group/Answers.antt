@@ -18,9 +18,7 @@ In-loop-t = lts.In-loop tie.the-claims reads.Pre reads.Post goal.the-invariant-l
 -- the bytes of a test are in the stream
 fits : (c : In-loop-t) → c.loop-t.t * c.args.per + c.args.j + c.args.n ≤ length c.args.stream.now
 fits c =
-    let l = c in
-    let s = l in
-    inside (less_entries p64 s.args.tables.now) s.args.per s.args.j s.args.n s.args.stream.now s.args.results.now l.loop-t.results l.loop-t.t l.loop-t.invariant c.loop-t-test.true s.requires.per_in_bounds.0 s.requires.per_in_bounds.1.0
+    inside (less_entries p64 c.args.tables.now) c.args.per c.args.j c.args.n c.args.stream.now c.args.results.now c.loop-t.results c.loop-t.t c.loop-t.invariant c.loop-t-test.true c.requires.per_in_bounds.0 c.requires.per_in_bounds.1.0
 
 pub loop-t-init : goal.loop-t-init
 loop-t-init c = (search rules, refl, refl)
@@ -51,10 +49,8 @@ slice_bounds-less_bytes-end c = omega (arith, fits c.before.before)
 
 pub less_bytes-requires : goal.less_bytes-requires
 less_bytes-requires c =
-    let l = c in
-    let s = l in
-    let e = bytes_long (less_entries p64 s.args.tables.now) s.args.per s.args.j s.args.n s.args.stream.now s.args.results.now l.loop-t.results l.loop-t.t l.loop-t.invariant c.loop-t-test.true s.requires.per_in_bounds.0 s.requires.per_in_bounds.1.0 in
-    (small (less_entries p64 s.args.tables.now) s.args.per s.args.j s.args.n s.args.stream.now s.args.results.now l.loop-t.results l.loop-t.t l.loop-t.invariant c.loop-t-test.true p64 s.requires.below, rw e s.requires.per_in_bounds.1.1)
+    let e = bytes_long (less_entries p64 c.args.tables.now) c.args.per c.args.j c.args.n c.args.stream.now c.args.results.now c.loop-t.results c.loop-t.t c.loop-t.invariant c.loop-t-test.true c.requires.per_in_bounds.0 c.requires.per_in_bounds.1.0 in
+    (small (less_entries p64 c.args.tables.now) c.args.per c.args.j c.args.n c.args.stream.now c.args.results.now c.loop-t.results c.loop-t.t c.loop-t.invariant c.loop-t-test.true p64 c.requires.below, rw e c.requires.per_in_bounds.1.1)
 
 pub offset_bounds-results-t-in-loop-t : goal.offset_bounds-results-t-in-loop-t
 offset_bounds-results-t-in-loop-t c = omega arith
@@ -70,15 +66,11 @@ loop-t-smaller c = omega arith
 
 pub loop-t-preserved : goal.loop-t-preserved
 loop-t-preserved c =
-    let l = c in
-    let s = l in
-    each_next (less_entries p64 s.args.tables.now) s.args.per s.args.j s.args.n s.args.stream.now s.args.results.now l.loop-t.results l.loop-t.t l.loop-t.invariant c.loop-t-test.true c.less_bytes.result c.less_bytes.ensures
+    each_next (less_entries p64 c.args.tables.now) c.args.per c.args.j c.args.n c.args.stream.now c.args.results.now c.loop-t.results c.loop-t.t c.loop-t.invariant c.loop-t-test.true c.less_bytes.result c.less_bytes.ensures
 
 pub shape_of-results : goal.shape_of-results
 shape_of-results c = c.loop-t.invariant.1
 
 pub returns : goal.returns
 returns c =
-    let l = c in
-    let s = l in
-    each_end (less_entries p64 s.args.tables.now) s.args.per s.args.j s.args.n s.args.stream.now s.args.results.now l.loop-t.results l.loop-t.t l.loop-t.invariant (omega arith)
+    each_end (less_entries p64 c.args.tables.now) c.args.per c.args.j c.args.n c.args.stream.now c.args.results.now c.loop-t.results c.loop-t.t c.loop-t.invariant (omega arith)

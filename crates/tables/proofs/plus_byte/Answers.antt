@@ -9,7 +9,6 @@ plus-requires c = omega (arith, c.plus-with_low.ensures.1, c.requires.1)
 
 pub returns : goal.returns
 returns c =
-    let s = c in
     let p = c.plus-with_low.ensures in
     let q = c.plus.ensures in
     (two _ _ _ _ _ p.0 q.0, omega (arith, p.1, q.1))

@@ -13,5 +13,4 @@ overflow_sub-mm c = omega (arith, c.add-pp.ensures)
 
 pub returns : goal.returns
 returns c =
-    let s = c in
-    less_table_law p64 s.args.a s.args.b _ _ _ _ _ _ s.requires.0 s.requires.1 refl refl c.add-pp.ensures c.sub-pm.ensures refl refl
+    less_table_law p64 c.args.a c.args.b _ _ _ _ _ _ c.requires.0 c.requires.1 refl refl c.add-pp.ensures c.sub-pm.ensures refl refl

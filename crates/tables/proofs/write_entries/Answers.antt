@@ -11,9 +11,7 @@ loop-k-init c = (omega arith, (refl, (λ j h. absurd (omega arith), λ i h. refl
 
 pub loop-k-preserved : goal.loop-k-preserved
 loop-k-preserved c =
-    let l = c in
-    let s = l in
-    (omega arith, (simp length-set l.loop-k.invariant.1.0, written_next l.loop-k.tables s.args.tables.now s.args.entries s.args.start l.loop-k.k (omega (arith, s.requires, l.loop-k.invariant.1.0)) l.loop-k.invariant.1.1))
+    (omega arith, (simp length-set c.loop-k.invariant.1.0, written_next c.loop-k.tables c.args.tables.now c.args.entries c.args.start c.loop-k.k (omega (arith, c.requires, c.loop-k.invariant.1.0)) c.loop-k.invariant.1.1))
 
 pub shape_of-tables : goal.shape_of-tables
 shape_of-tables c = c.loop-k.invariant.1.0

@@ -13,14 +13,13 @@ use Rattle.tiles.proofs.run_block.Goals as goal
 
 pub run_tiles-norm-requires : goal.run_tiles-norm-requires
 run_tiles-norm-requires c =
-    let s = c in
     let f = c.find_starts in
-    let rows = s.requires.block_rows in
+    let rows = c.requires.block_rows in
     record {
-      usable = s.requires.usable;
-      per_bound = s.requires.per_bound;
+      usable = c.requires.usable;
+      per_bound = c.requires.per_bound;
       block_rows = ((rows.0.0, (omega (arith, rows.0.1.0, f.auto.states), rows.0.1.1)), rows.1);
-      ready = rw f.ensures (starts_ready s.args.per (length s.args.results.now) s.args.stream s.requires.at_bound.0);
+      ready = rw f.ensures (starts_ready c.args.per (length c.args.results.now) c.args.stream c.requires.at_bound.0);
     }
 
 pub overflow_sub-from : goal.overflow_sub-from
@@ -37,22 +36,20 @@ offset_bounds-states-from c = record { fits = omega (arith, c.requires.block_row
 
 pub slice_bounds-load-end : goal.slice_bounds-load-end
 slice_bounds-load-end c =
-    let s = c in
-    let rows = s.requires.block_rows.0 in
-    omega (arith, rows.0, rows.1.0, s.requires.at_bound.1, c.run_tiles-norm.auto.states, c.find_starts.auto.states)
+    let rows = c.requires.block_rows.0 in
+    omega (arith, rows.0, rows.1.0, c.requires.at_bound.1, c.run_tiles-norm.auto.states, c.find_starts.auto.states)
 
 pub returns : goal.returns
 returns c =
-    let s = c in
     let r = c.run_tiles-norm in
     let f = c.find_starts in
-    let per = s.args.per in
-    let T = length s.args.results.now in
+    let per = c.args.per in
+    let T = length c.args.results.now in
     let at = (T - 1) * 26 in
-    let next = c.load-next.ensures ∙ last_after per T (T - 1) (at + 26 - at) _ s.args.stream s.requires.at_bound.1 refl (as_many at 26) (r.ensures.states_after ∙ ap (all_after per) f.ensures) in
-    let bytes = ap (tile_of per) f.ensures ∙ starts_drawn per T s.args.stream in
+    let next = c.load-next.ensures ∙ last_after per T (T - 1) (at + 26 - at) _ c.args.stream c.requires.at_bound.1 refl (as_many at 26) (r.ensures.states_after ∙ ap (all_after per) f.ensures) in
+    let bytes = ap (tile_of per) f.ensures ∙ starts_drawn per T c.args.stream in
     record {
       norm_value = r.ensures.result_value;
-      next_value = (next, last_ready (T * per) s.args.stream c.load-next.result s.requires.at_bound.0 next);
-      results_after = r.ensures.results_after ∙ ap (λ (bs : List ℕ). tests_of p64 per T bs (elements p64 s.args.frac_bits s.args.gradient.now)) bytes;
+      next_value = (next, last_ready (T * per) c.args.stream c.load-next.result c.requires.at_bound.0 next);
+      results_after = r.ensures.results_after ∙ ap (λ (bs : List ℕ). tests_of p64 per T bs (elements p64 c.args.frac_bits c.args.gradient.now)) bytes;
     }

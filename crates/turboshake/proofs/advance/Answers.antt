@@ -9,11 +9,9 @@ use Rattle.turboshake.proofs.advance.Goals as goal
 
 pub returns-then-next-eq-RATE : goal.returns-then-next-eq-RATE
 returns-then-next-eq-RATE c =
-    let s = c in
-    (ap (λ (ws : List ℕ). sponge ws 0) c.permute.ensures ∙ sym (moved_full s.args.n s.args.at s.args.lanes.now (omega arith)), omega arith)
+    (ap (λ (ws : List ℕ). sponge ws 0) c.permute.ensures ∙ sym (moved_full c.args.n c.args.at c.args.lanes.now (omega arith)), omega arith)
 
 pub returns : goal.returns
 returns c =
-    let s = c in
-    let part : s.args.at + s.args.n < 168 = omega arith in
-    (sym (moved_part s.args.n s.args.at s.args.lanes.now part), part)
+    let part : c.args.at + c.args.n < 168 = omega arith in
+    (sym (moved_part c.args.n c.args.at c.args.lanes.now part), part)

@@ -8,6 +8,5 @@ use Rattle.turboshake.proofs.put.Goals as goal
 
 pub returns : goal.returns
 returns c =
-    let s = c in
-    ap (λ (n : ℕ). set s.args.lanes.now (s.args.at / 8) (bit_xor (get_or s.args.lanes.now (s.args.at / 8) 0) n))
-    (ap (λ (b : ℕ). b * 2 ^ (8 * (s.args.at % 8)) % 2 ^ 64) c.wide.ensures.0 ∙ shifted_byte s.args.b s.args.at s.ranges.b.fits)
+    ap (λ (n : ℕ). set c.args.lanes.now (c.args.at / 8) (bit_xor (get_or c.args.lanes.now (c.args.at / 8) 0) n))
+    (ap (λ (b : ℕ). b * 2 ^ (8 * (c.args.at % 8)) % 2 ^ 64) c.wide.ensures.0 ∙ shifted_byte c.args.b c.args.at c.ranges.b.fits)

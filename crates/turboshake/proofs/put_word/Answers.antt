@@ -6,15 +6,12 @@ use Rattle.turboshake.proofs.put_word.Goals as goal
 
 pub returns-then-skip-eq0 : goal.returns-then-skip-eq0
 returns-then-skip-eq0 c =
-    let s = c in
-    (c.advance.ensures.0 ∙ sym (word_aligned s.args.w s.args.at s.args.lanes.now s.ranges.w.fits s.requires (omega arith)), c.advance.ensures.1)
+    (c.advance.ensures.0 ∙ sym (word_aligned c.args.w c.args.at c.args.lanes.now c.ranges.w.fits c.requires (omega arith)), c.advance.ensures.1)
 
 pub returns : goal.returns
 returns c =
-    let left = c in
-    let s = left in
-    let some = left.if-skip-eq0.false in
+    let some = c.if-skip-eq0.false in
     let on = c.advance-next.ensures.0 in
     let next = c.advance-next.result in
     let lanes = c.advance-next.new.lanes in
-    (sym (word_across s.args.w s.args.at s.args.lanes.now next lanes s.ranges.w.fits s.requires some on), across_below s.args.w s.args.at s.args.lanes.now next lanes s.ranges.w.fits s.requires some on)
+    (sym (word_across c.args.w c.args.at c.args.lanes.now next lanes c.ranges.w.fits c.requires some on), across_below c.args.w c.args.at c.args.lanes.now next lanes c.ranges.w.fits c.requires some on)

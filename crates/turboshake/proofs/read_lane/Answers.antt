@@ -6,18 +6,9 @@ use Rattle.turboshake.proofs.read_lane.Goals as goal
 
 pub returns : goal.returns
 returns c =
-    let p = c in
-    let h = p in
-    let g = h in
-    let f = g in
-    let e = f in
-    let d = e in
-    let b = d in
-    let a = b in
-    let z = a in
-    let s = z in (
+    let s = c in (
       eight_loads s.args.bytes.now s.args.i _ _ _ _ _ _ _ _ s.requires
-          z.byte_at-b0.ensures a.byte_at-b1.ensures b.byte_at-b2.ensures d.byte_at-b3.ensures e.byte_at-b4.ensures f.byte_at-b5.ensures g.byte_at-b6.ensures h.byte_at-b7.ensures
-          p.placed.result c.placed-2.result _ p.placed.ensures.0 c.placed-2.ensures.0 refl,
-      omega (arith, p.placed.ensures.1, c.placed-2.ensures.1),
+          c.byte_at-b0.ensures c.byte_at-b1.ensures c.byte_at-b2.ensures c.byte_at-b3.ensures c.byte_at-b4.ensures c.byte_at-b5.ensures c.byte_at-b6.ensures c.byte_at-b7.ensures
+          c.placed.result c.placed-2.result _ c.placed.ensures.0 c.placed-2.ensures.0 refl,
+      omega (arith, c.placed.ensures.1, c.placed-2.ensures.1),
     )

@@ -9,12 +9,9 @@ returns-then-answer-ne0 c = accumulate_refused Field64 _ _ _ _ c.check_accumulat
 
 pub add_rows-requires : goal.add_rows-requires
 add_rows-requires c =
-    let b = c in
-    let t = accumulate_met Field64 _ _ _ _ b.check_accumulate-answer.ensures b.if-answer-ne0.false in
+    let t = accumulate_met Field64 _ _ _ _ c.check_accumulate-answer.ensures c.if-answer-ne0.false in
     (t.left_long ∙ sym t.right_long, (t.left_below, t.right_below))
 
 pub returns : goal.returns
 returns c =
-    let z = c in
-    let b = z in
-    accumulate_done Field64 _ _ _ _ b.check_accumulate-answer.ensures b.if-answer-ne0.false _ z.add_rows.ensures
+    accumulate_done Field64 _ _ _ _ c.check_accumulate-answer.ensures c.if-answer-ne0.false _ c.add_rows.ensures

@@ -12,6 +12,4 @@ new-pine-requires c = derivable_64 (inputs_met Field64 _ _ c.check_param-inputs.
 
 pub returns : goal.returns
 returns c =
-    let n = c in
-    let e = n in
-    empty_verdict Field64 _ _ e.check_param-inputs.ensures e.if-inputs-ne0.false _ n.new-pine.ensures _ _ c.check_len.ensures
+    empty_verdict Field64 _ _ c.check_param-inputs.ensures c.if-inputs-ne0.false _ c.new-pine.ensures _ _ c.check_len.ensures

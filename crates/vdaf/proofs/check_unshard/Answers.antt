@@ -10,12 +10,8 @@ returns-then-lens-ne0 c = unshard_stopped Field64 _ _ _ _ _ c.check_lens-lens.en
 
 pub new-pine-requires : goal.new-pine-requires
 new-pine-requires c =
-    let s = c in
-    derivable_64 (lens_met Field64 _ s.args.left.now s.args.right.now s.args.decoded.now _ c.check_lens-lens.ensures c.if-lens-ne0.false)
+    derivable_64 (lens_met Field64 _ c.args.left.now c.args.right.now c.args.decoded.now _ c.check_lens-lens.ensures c.if-lens-ne0.false)
 
 pub returns : goal.returns
 returns c =
-    let n = c in
-    let e = n in
-    let s = e in
-    unshard_verdict Field64 _ _ _ _ _ e.check_lens-lens.ensures e.if-lens-ne0.false _ n.new-pine.ensures _ _ _ c.check_len-decoded_len.ensures (only_elements Field64 s.args.left.now s.args.right.now (lit< tt) (lit≤ tt)) c.or_elements.ensures
+    unshard_verdict Field64 _ _ _ _ _ c.check_lens-lens.ensures c.if-lens-ne0.false _ c.new-pine.ensures _ _ _ c.check_len-decoded_len.ensures (only_elements Field64 c.args.left.now c.args.right.now (lit< tt) (lit≤ tt)) c.or_elements.ensures

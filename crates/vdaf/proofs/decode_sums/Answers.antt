@@ -32,29 +32,22 @@ loop-i-init c = (search rules, refl, refl)
 
 pub add-requires : goal.add-requires
 add-requires c =
-    let l = c in
-    let s = l in
-    (below_at p64 s.args.left.now s.requires.below.0 l.loop-i.i (omega arith), below_at p64 s.args.right.now s.requires.below.1 l.loop-i.i (omega arith))
+    (below_at p64 c.args.left.now c.requires.below.0 c.loop-i.i (omega arith), below_at p64 c.args.right.now c.requires.below.1 c.loop-i.i (omega arith))
 
 pub decode-requires : goal.decode-requires
 decode-requires c =
-    let s = c in
     record {
       fact_1 = omega (arith, c.add.ensures);
-      fact_2 = s.requires.scale_value;
+      fact_2 = c.requires.scale_value;
     }
 
 pub loop-i-preserved : goal.loop-i-preserved
 loop-i-preserved c =
-    let l = c in
-    let s = l in
-    turn s.args.frac_bits s.args.left.now s.args.right.now s.args.decoded.now s.requires.left_len l.loop-i.decoded l.loop-i.i l.loop-i.invariant (omega arith) c.add.result c.decode.result c.add.ensures c.decode.ensures
+    turn c.args.frac_bits c.args.left.now c.args.right.now c.args.decoded.now c.requires.left_len c.loop-i.decoded c.loop-i.i c.loop-i.invariant (omega arith) c.add.result c.decode.result c.add.ensures c.decode.ensures
 
 pub shape_of-decoded : goal.shape_of-decoded
 shape_of-decoded c = c.loop-i.invariant.1
 
 pub returns : goal.returns
 returns c =
-    let l = c in
-    let s = l in
-    l.loop-i.invariant.2 ∙ walked_end _ _ l.loop-i.i (long s.args.frac_bits s.args.left.now s.args.right.now s.args.decoded.now s.requires.left_len) (omega arith)
+    c.loop-i.invariant.2 ∙ walked_end _ _ c.loop-i.i (long c.args.frac_bits c.args.left.now c.args.right.now c.args.decoded.now c.requires.left_len) (omega arith)

@@ -9,6 +9,4 @@ returns-then-answer-ne0 c = empty_refused Field64 _ _ _ c.check_empty-answer.ens
 
 pub returns : goal.returns
 returns c =
-    let z = c in
-    let b = z in
-    empty_done Field64 _ _ _ b.check_empty-answer.ensures (λ n. refl) b.if-answer-ne0.false _ z.zero_row.ensures
+    empty_done Field64 _ _ _ c.check_empty-answer.ensures (λ n. refl) c.if-answer-ne0.false _ c.zero_row.ensures

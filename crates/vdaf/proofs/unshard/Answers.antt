@@ -13,8 +13,7 @@ new-pine-requires c = derivable_64 (unshard_met Field64 _ _ _ _ _ c.check_unshar
 
 pub decode_sums-requires : goal.decode_sums-requires
 decode_sums-requires c =
-    let b = c in
-    let t = unshard_met Field64 _ _ _ _ _ b.check_unshard-answer.ensures b.if-answer-ne0.false in
+    let t = unshard_met Field64 _ _ _ _ _ c.check_unshard-answer.ensures c.if-answer-ne0.false in
     record {
       left_len = (t.0.left_long ∙ sym t.1, t.0.right_long ∙ sym t.1);
       below = (t.0.left_below, t.0.right_below);
@@ -23,6 +22,4 @@ decode_sums-requires c =
 
 pub returns : goal.returns
 returns c =
-    let z = c in
-    let b = z in
-    unshard_done Field64 _ _ _ _ _ b.check_unshard-answer.ensures b.if-answer-ne0.false _ z.new-pine.ensures _ z.decode_sums.ensures
+    unshard_done Field64 _ _ _ _ _ c.check_unshard-answer.ensures c.if-answer-ne0.false _ c.new-pine.ensures _ c.decode_sums.ensures

@@ -12,6 +12,4 @@ row_len-requires c = inputs_met Field128 _ _ c.check_param-inputs.ensures c.if-i
 
 pub returns : goal.returns
 returns c =
-    let n = c in
-    let e = n in
-    empty_by_words _ _ e.check_param-inputs.ensures e.if-inputs-ne0.false _ n.row_len.ensures _ _ c.check_len.ensures
+    empty_by_words _ _ c.check_param-inputs.ensures c.if-inputs-ne0.false _ c.row_len.ensures _ _ c.check_len.ensures

@@ -12,6 +12,4 @@ row_len-len-requires c = inputs_met Field128 _ _ c.check_param-inputs.ensures c.
 
 pub returns : goal.returns
 returns c =
-    let n = c in
-    let e = n in
-    lens_by_words _ _ e.check_param-inputs.ensures e.if-inputs-ne0.false _ n.row_len-len.ensures _ _ _ _ _ c.check_len-left_len.ensures c.check_len-right_len.ensures c.or.ensures
+    lens_by_words _ _ c.check_param-inputs.ensures c.if-inputs-ne0.false _ c.row_len-len.ensures _ _ _ _ _ c.check_len-left_len.ensures c.check_len-right_len.ensures c.or.ensures

@@ -9,16 +9,11 @@ returns-then-lens-ne0 c = unshard_stopped Field128 _ _ _ _ _ c.check_lens-lens.e
 
 pub returns-then-elements-ne0 : goal.returns-then-elements-ne0
 returns-then-elements-ne0 c =
-    let o = c in
-    let e = o in
-    elements_refused _ _ _ _ _ e.check_lens-lens.ensures e.if-lens-ne0.false _ _ o.check_len-decoded_len.ensures o.or_elements-elements.ensures c.if-elements-ne0.true
+    elements_refused _ _ _ _ _ c.check_lens-lens.ensures c.if-lens-ne0.false _ _ c.check_len-decoded_len.ensures c.or_elements-elements.ensures c.if-elements-ne0.true
 
 pub check_sizes-requires : goal.check_sizes-requires
 check_sizes-requires c =
-    let o = c in
-    let e = o in
-    let s = e in
-    let r = rows_ready s.args.param s.args.left.now s.args.right.now (rows_met s.args.param s.args.left.now s.args.right.now s.args.decoded.now _ e.check_lens-lens.ensures e.if-lens-ne0.false _ _ o.check_len-decoded_len.ensures o.or_elements-elements.ensures c.if-elements-ne0.false) in
+    let r = rows_ready c.args.param c.args.left.now c.args.right.now (rows_met c.args.param c.args.left.now c.args.right.now c.args.decoded.now _ c.check_lens-lens.ensures c.if-lens-ne0.false _ _ c.check_len-decoded_len.ensures c.or_elements-elements.ensures c.if-elements-ne0.false) in
     record {
       left_len = r.0.1;
       below = r.1;
@@ -26,7 +21,4 @@ check_sizes-requires c =
 
 pub returns : goal.returns
 returns c =
-    let k = c in
-    let o = k in
-    let e = o in
-    sizes_answer _ _ _ _ _ e.check_lens-lens.ensures e.if-lens-ne0.false _ _ o.check_len-decoded_len.ensures o.or_elements-elements.ensures k.if-elements-ne0.false _ c.check_sizes.ensures
+    sizes_answer _ _ _ _ _ c.check_lens-lens.ensures c.if-lens-ne0.false _ _ c.check_len-decoded_len.ensures c.or_elements-elements.ensures c.if-elements-ne0.false _ c.check_sizes.ensures

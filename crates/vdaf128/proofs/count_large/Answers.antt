@@ -12,11 +12,9 @@ loop-i-init c = (omega arith, omega arith, λ z. refl)
 
 pub sum_at-requires : goal.sum_at-requires
 sum_at-requires c =
-    let l = c in
-    let s = l in
     record {
-      i_in_bounds = sum_inside s.args.left.now s.args.right.now s.requires.left_len l.loop-i.i (omega arith);
-      below = s.requires.below;
+      i_in_bounds = sum_inside c.args.left.now c.args.right.now c.requires.left_len c.loop-i.i (omega arith);
+      below = c.requires.below;
     }
 
 pub size_flag-count-requires : goal.size_flag-count-requires
@@ -27,19 +25,14 @@ overflow_add-count c = omega (arith, (small_by_flag p128 size_limit128 (number_o
 
 pub loop-i-preserved : goal.loop-i-preserved
 loop-i-preserved c =
-    let k = c in
-    let l = k in
-    let s = l in
-    let x = s.args.left.now in
-    let y = s.args.right.now in
-    let q = small_by_flag p128 size_limit128 (number_of k.sum_at.result) c.size_flag-count.result c.size_flag-count.ensures in
-    let e = sum_is x y s.requires.left_len l.loop-i.i (omega arith) (number_of k.sum_at.result) k.sum_at.ensures in
-    (omega arith, omega (arith, q.0), λ z. sizes_next p128 size_limit128 (sums x y) l.loop-i.i (omega (arith, sums_long x y s.requires.left_len)) (l.loop-i.invariant.2 (omega arith)) (rw (← e) (q.1 (omega arith))))
+    let x = c.args.left.now in
+    let y = c.args.right.now in
+    let q = small_by_flag p128 size_limit128 (number_of c.sum_at.result) c.size_flag-count.result c.size_flag-count.ensures in
+    let e = sum_is x y c.requires.left_len c.loop-i.i (omega arith) (number_of c.sum_at.result) c.sum_at.ensures in
+    (omega arith, omega (arith, q.0), λ z. sizes_next p128 size_limit128 (sums x y) c.loop-i.i (omega (arith, sums_long x y c.requires.left_len)) (c.loop-i.invariant.2 (omega arith)) (rw (← e) (q.1 (omega arith))))
 
 pub returns : goal.returns
 returns c =
-    let l = c in
-    let s = l in
-    let x = s.args.left.now in
-    let y = s.args.right.now in
-    λ z. sizes_end p128 size_limit128 (sums x y) l.loop-i.i (omega (arith, sums_long x y s.requires.left_len)) (l.loop-i.invariant.2 z)
+    let x = c.args.left.now in
+    let y = c.args.right.now in
+    λ z. sizes_end p128 size_limit128 (sums x y) c.loop-i.i (omega (arith, sums_long x y c.requires.left_len)) (c.loop-i.invariant.2 z)

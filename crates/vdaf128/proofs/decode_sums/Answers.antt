@@ -43,35 +43,26 @@ loop-i-init c = (search rules, refl, refl)
 
 pub sum_at-requires : goal.sum_at-requires
 sum_at-requires c =
-    let l = c in
-    let s = l in
     record {
-      i_in_bounds = sum_inside s.args.left.now s.args.right.now (rows_same s.args.frac_bits s.args.left.now s.args.right.now s.args.decoded.now s.requires.left_len) l.loop-i.i (omega (arith, s.requires.left_len.0, l.loop-i.invariant.1));
-      below = s.requires.below;
+      i_in_bounds = sum_inside c.args.left.now c.args.right.now (rows_same c.args.frac_bits c.args.left.now c.args.right.now c.args.decoded.now c.requires.left_len) c.loop-i.i (omega (arith, c.requires.left_len.0, c.loop-i.invariant.1));
+      below = c.requires.below;
     }
 
 pub decode-requires : goal.decode-requires
 decode-requires c =
-    let l = c in
-    let s = l in
     record {
       fact_1 = sum_below_lem _ _ _ c.sum_at.ensures;
-      fact_2 = small s.args.frac_bits s.args.left.now s.args.right.now s.args.decoded.now s.requires.left_len s.requires.right_value l.loop-i.i (omega (arith, l.loop-i.invariant.1)) _ c.sum_at.ensures;
-      fact_3 = s.requires.scale_value;
+      fact_2 = small c.args.frac_bits c.args.left.now c.args.right.now c.args.decoded.now c.requires.left_len c.requires.right_value c.loop-i.i (omega (arith, c.loop-i.invariant.1)) _ c.sum_at.ensures;
+      fact_3 = c.requires.scale_value;
     }
 
 pub loop-i-preserved : goal.loop-i-preserved
 loop-i-preserved c =
-    let k = c in
-    let l = k in
-    let s = l in
-    turn s.args.frac_bits s.args.left.now s.args.right.now s.args.decoded.now s.requires.left_len l.loop-i.decoded l.loop-i.i l.loop-i.invariant (omega arith) (number_of k.sum_at.result) c.decode.result k.sum_at.ensures c.decode.ensures
+    turn c.args.frac_bits c.args.left.now c.args.right.now c.args.decoded.now c.requires.left_len c.loop-i.decoded c.loop-i.i c.loop-i.invariant (omega arith) (number_of c.sum_at.result) c.decode.result c.sum_at.ensures c.decode.ensures
 
 pub shape_of-decoded : goal.shape_of-decoded
 shape_of-decoded c = c.loop-i.invariant.1
 
 pub returns : goal.returns
 returns c =
-    let l = c in
-    let s = l in
-    l.loop-i.invariant.2 ∙ walked_end _ _ l.loop-i.i (long s.args.frac_bits s.args.left.now s.args.right.now s.args.decoded.now s.requires.left_len) (omega arith)
+    c.loop-i.invariant.2 ∙ walked_end _ _ c.loop-i.i (long c.args.frac_bits c.args.left.now c.args.right.now c.args.decoded.now c.requires.left_len) (omega arith)

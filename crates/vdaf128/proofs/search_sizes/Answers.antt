@@ -15,11 +15,9 @@ loop-i-init c = (omega arith, refl)
 
 pub sum_at-requires : goal.sum_at-requires
 sum_at-requires c =
-    let l = c in
-    let s = l in
     record {
-      i_in_bounds = sum_inside s.args.left.now s.args.right.now s.requires.left_len l.loop-i.i (omega arith);
-      below = s.requires.below;
+      i_in_bounds = sum_inside c.args.left.now c.args.right.now c.requires.left_len c.loop-i.i (omega arith);
+      below = c.requires.below;
     }
 
 pub check_size-answer-requires : goal.check_size-answer-requires
@@ -27,29 +25,21 @@ check_size-answer-requires c = sum_below_lem _ _ _ c.sum_at.ensures
 
 pub returns-then-answer-ne0 : goal.returns-then-answer-ne0
 returns-then-answer-ne0 c =
-    let k = c in
-    let l = k in
-    let s = l in
-    let x = s.args.left.now in
-    let y = s.args.right.now in
-    let e = sum_is x y s.requires.left_len l.loop-i.i (omega arith) (number_of k.sum_at.result) k.sum_at.ensures in
-    sizes_stop p128 size_limit128 (sums x y) l.loop-i.i (omega (arith, sums_long x y s.requires.left_len)) l.loop-i.invariant.1 k.check_size-answer.result (k.check_size-answer.ensures ∙ ap (size_rule p128 size_limit128) e) c.if-answer-ne0.true
+    let x = c.args.left.now in
+    let y = c.args.right.now in
+    let e = sum_is x y c.requires.left_len c.loop-i.i (omega arith) (number_of c.sum_at.result) c.sum_at.ensures in
+    sizes_stop p128 size_limit128 (sums x y) c.loop-i.i (omega (arith, sums_long x y c.requires.left_len)) c.loop-i.invariant.1 c.check_size-answer.result (c.check_size-answer.ensures ∙ ap (size_rule p128 size_limit128) e) c.if-answer-ne0.true
 
 pub loop-i-preserved : goal.loop-i-preserved
 loop-i-preserved c =
-    let k = c in
-    let l = k in
-    let s = l in
-    let x = s.args.left.now in
-    let y = s.args.right.now in
-    let e = sum_is x y s.requires.left_len l.loop-i.i (omega arith) (number_of k.sum_at.result) k.sum_at.ensures in
-    let z : (size_rule p128 size_limit128 (get_or (sums x y) l.loop-i.i 0)).number ≡ 0 = ap (λ (a : Answer). a.number) (sym (k.check_size-answer.ensures ∙ ap (size_rule p128 size_limit128) e)) ∙ c.if-answer-ne0.false in
-    (omega arith, sizes_next p128 size_limit128 (sums x y) l.loop-i.i (omega (arith, sums_long x y s.requires.left_len)) l.loop-i.invariant.1 z)
+    let x = c.args.left.now in
+    let y = c.args.right.now in
+    let e = sum_is x y c.requires.left_len c.loop-i.i (omega arith) (number_of c.sum_at.result) c.sum_at.ensures in
+    let z : (size_rule p128 size_limit128 (get_or (sums x y) c.loop-i.i 0)).number ≡ 0 = ap (λ (a : Answer). a.number) (sym (c.check_size-answer.ensures ∙ ap (size_rule p128 size_limit128) e)) ∙ c.if-answer-ne0.false in
+    (omega arith, sizes_next p128 size_limit128 (sums x y) c.loop-i.i (omega (arith, sums_long x y c.requires.left_len)) c.loop-i.invariant.1 z)
 
 pub returns : goal.returns
 returns c =
-    let l = c in
-    let s = l in
-    let x = s.args.left.now in
-    let y = s.args.right.now in
-    c.accepted.ensures ∙ sizes_end p128 size_limit128 (sums x y) l.loop-i.i (omega (arith, sums_long x y s.requires.left_len)) l.loop-i.invariant.1
+    let x = c.args.left.now in
+    let y = c.args.right.now in
+    c.accepted.ensures ∙ sizes_end p128 size_limit128 (sums x y) c.loop-i.i (omega (arith, sums_long x y c.requires.left_len)) c.loop-i.invariant.1

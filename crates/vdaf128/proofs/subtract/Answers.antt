@@ -9,8 +9,7 @@ returns-then-answer-ne0 c = subtract_refused Field128 _ _ _ _ c.check_accumulate
 
 pub sub_rows-requires : goal.sub_rows-requires
 sub_rows-requires c =
-    let b = c in
-    let both = rows_ready _ _ _ (accumulate_met Field128 _ _ _ _ b.check_accumulate-answer.ensures b.if-answer-ne0.false) in
+    let both = rows_ready _ _ _ (accumulate_met Field128 _ _ _ _ c.check_accumulate-answer.ensures c.if-answer-ne0.false) in
     record {
       whole = both.0;
       below = both.1;
@@ -18,6 +17,4 @@ sub_rows-requires c =
 
 pub returns : goal.returns
 returns c =
-    let z = c in
-    let b = z in
-    subtract_done Field128 _ _ _ _ b.check_accumulate-answer.ensures b.if-answer-ne0.false _ z.sub_rows.ensures
+    subtract_done Field128 _ _ _ _ c.check_accumulate-answer.ensures c.if-answer-ne0.false _ c.sub_rows.ensures

@@ -7,8 +7,7 @@ use Rattle.vdaf128.proofs.sum_at.Goals as goal
 
 pub add-requires : goal.add-requires
 add-requires c =
-    let s = c in
-    (rw c.element.ensures (below_at p128 (elements_of s.args.left.now) s.requires.below.0 s.args.i s.requires.i_in_bounds.0), rw c.element-2.ensures (below_at p128 (elements_of s.args.right.now) s.requires.below.1 s.args.i s.requires.i_in_bounds.1))
+    (rw c.element.ensures (below_at p128 (elements_of c.args.left.now) c.requires.below.0 c.args.i c.requires.i_in_bounds.0), rw c.element-2.ensures (below_at p128 (elements_of c.args.right.now) c.requires.below.1 c.args.i c.requires.i_in_bounds.1))
 
 pub returns : goal.returns
 returns c = c.add.ensures ∙ (λ j. add_mod p128 (c.element.ensures j) (c.element-2.ensures j))

@@ -14,19 +14,15 @@ new-pine-requires c = derivable_128 (unshard_met Field128 _ _ _ _ _ c.check_unsh
 
 pub decode_sums-requires : goal.decode_sums-requires
 decode_sums-requires c =
-    let b = c in
-    let s = b in
-    let e = b.check_unshard-answer.ensures in
-    let m = sums_met s.args.param s.args.left.now s.args.right.now s.args.decoded.now (unshard_met Field128 _ _ _ _ _ e b.if-answer-ne0.false) in
+    let e = c.check_unshard-answer.ensures in
+    let m = sums_met c.args.param c.args.left.now c.args.right.now c.args.decoded.now (unshard_met Field128 _ _ _ _ _ e c.if-answer-ne0.false) in
     record {
       left_len = m.0;
       below = m.1;
-      right_value = sizes_passed s.args.param s.args.left.now s.args.right.now s.args.decoded.now _ e b.if-answer-ne0.false;
+      right_value = sizes_passed c.args.param c.args.left.now c.args.right.now c.args.decoded.now _ e c.if-answer-ne0.false;
       scale_value = scale_is _ _ c.new-pine.ensures;
     }
 
 pub returns : goal.returns
 returns c =
-    let z = c in
-    let b = z in
-    unshard_done Field128 _ _ _ _ _ b.check_unshard-answer.ensures b.if-answer-ne0.false _ z.new-pine.ensures _ z.decode_sums.ensures
+    unshard_done Field128 _ _ _ _ _ c.check_unshard-answer.ensures c.if-answer-ne0.false _ c.new-pine.ensures _ c.decode_sums.ensures

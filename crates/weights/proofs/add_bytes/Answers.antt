@@ -12,8 +12,7 @@ write_weights-requires c = c.requires.pair_weights
 
 pub weighed_sum-weighed-requires : goal.weighed_sum-weighed-requires
 weighed_sum-weighed-requires c =
-    let s = c in
-    (s.requires.below.1.0, part_fits s.args.xs.now s.args.bytes.now _ c.write_weights.ensures s.requires.below.1.1)
+    (c.requires.below.1.0, part_fits c.args.xs.now c.args.bytes.now _ c.write_weights.ensures c.requires.below.1.1)
 
 pub add-requires : goal.add-requires
 add-requires c = (c.requires.r_lt_p64.0, rw c.weighed_sum-weighed.ensures (evaluate_below p64 1 (lit< tt) _))
@@ -23,9 +22,7 @@ sub-requires c = (rw c.add.ensures (mod-lt _ (lit< tt)), rw c.requires.r_lt_p64.
 
 pub returns : goal.returns
 returns c =
-    let s = c in
-    let w = c in
-    let xs = s.args.xs.now in
+    let xs = c.args.xs.now in
     c.sub.ensures
-    ∙ (λ i. sub_mod p64 (c.add.ensures i) s.args.plain)
-    ∙ bytes_weighed p64 (lit< tt) s.args.r s.args.plain w.weighed_sum-weighed.result xs s.args.bytes.now s.requires.below.0 s.requires.below.1.1 s.requires.r_lt_p64.1 (part_weighed xs s.args.bytes.now _ w.write_weights.ensures p64 _ w.weighed_sum-weighed.ensures)
+    ∙ (λ i. sub_mod p64 (c.add.ensures i) c.args.plain)
+    ∙ bytes_weighed p64 (lit< tt) c.args.r c.args.plain c.weighed_sum-weighed.result xs c.args.bytes.now c.requires.below.0 c.requires.below.1.1 c.requires.r_lt_p64.1 (part_weighed xs c.args.bytes.now _ c.write_weights.ensures p64 _ c.weighed_sum-weighed.ensures)

@@ -24,9 +24,7 @@ adds xs bytes r = add_mod p64 r (test_of p64 xs bytes)
 -- the bytes of a test are in the stream
 fits : (c : In-loop-t) → c.loop-t.t * c.args.per + c.args.j + c.args.n ≤ length c.args.stream.now
 fits c =
-    let l = c in
-    let s = l in
-    inside (adds s.args.xs.now) s.args.per s.args.j s.args.n s.args.stream.now s.args.results.now l.loop-t.results l.loop-t.t l.loop-t.invariant.1 c.loop-t-test.true s.requires.per_in_bounds.0 s.requires.per_in_bounds.1.0
+    inside (adds c.args.xs.now) c.args.per c.args.j c.args.n c.args.stream.now c.args.results.now c.loop-t.results c.loop-t.t c.loop-t.invariant.1 c.loop-t-test.true c.requires.per_in_bounds.0 c.requires.per_in_bounds.1.0
 
 pub plain_sum-plain-requires : goal.plain_sum-plain-requires
 plain_sum-plain-requires c = c.requires.below.1.0
@@ -60,14 +58,12 @@ slice_bounds-add_bytes-end c = omega (arith, fits c.before.before)
 
 pub add_bytes-requires : goal.add_bytes-requires
 add_bytes-requires c =
-    let l = c in
-    let s = l in
     let t = c.loop-t-test.true in
-    let e = bytes_long (adds s.args.xs.now) s.args.per s.args.j s.args.n s.args.stream.now s.args.results.now l.loop-t.results l.loop-t.t l.loop-t.invariant.1 t s.requires.per_in_bounds.0 s.requires.per_in_bounds.1.0 in
+    let e = bytes_long (adds c.args.xs.now) c.args.per c.args.j c.args.n c.args.stream.now c.args.results.now c.loop-t.results c.loop-t.t c.loop-t.invariant.1 t c.requires.per_in_bounds.0 c.requires.per_in_bounds.1.0 in
     record {
-      r_lt_p64 = (small (adds s.args.xs.now) s.args.per s.args.j s.args.n s.args.stream.now s.args.results.now l.loop-t.results l.loop-t.t l.loop-t.invariant.1 t p64 s.requires.below_2, l.plain_sum-plain.ensures);
-      below = (s.requires.below.0, (s.requires.below.1.0, rw e s.requires.below.1.1));
-      pair_weights = (pairs_table, (omega arith, rw e (l.loop-t.invariant.0 ∙ s.requires.per_in_bounds.1.1)));
+      r_lt_p64 = (small (adds c.args.xs.now) c.args.per c.args.j c.args.n c.args.stream.now c.args.results.now c.loop-t.results c.loop-t.t c.loop-t.invariant.1 t p64 c.requires.below_2, c.plain_sum-plain.ensures);
+      below = (c.requires.below.0, (c.requires.below.1.0, rw e c.requires.below.1.1));
+      pair_weights = (pairs_table, (omega arith, rw e (c.loop-t.invariant.0 ∙ c.requires.per_in_bounds.1.1)));
     }
 
 pub offset_bounds-results-t-in-loop-t : goal.offset_bounds-results-t-in-loop-t
@@ -84,10 +80,7 @@ loop-t-smaller c = omega arith
 
 pub loop-t-preserved : goal.loop-t-preserved
 loop-t-preserved c =
-    let a = c in
-    let l = a in
-    let s = l in
-    (a.add_bytes.auto.weights ∙ l.loop-t.invariant.0, each_next (adds s.args.xs.now) s.args.per s.args.j s.args.n s.args.stream.now s.args.results.now l.loop-t.results l.loop-t.t l.loop-t.invariant.1 a.loop-t-test.true a.add_bytes.result a.add_bytes.ensures)
+    (c.add_bytes.auto.weights ∙ c.loop-t.invariant.0, each_next (adds c.args.xs.now) c.args.per c.args.j c.args.n c.args.stream.now c.args.results.now c.loop-t.results c.loop-t.t c.loop-t.invariant.1 c.loop-t-test.true c.add_bytes.result c.add_bytes.ensures)
 
 pub shape_of-weights : goal.shape_of-weights
 shape_of-weights c = c.loop-t.invariant.0
@@ -97,6 +90,4 @@ shape_of-results c = c.loop-t.invariant.1.1
 
 pub returns : goal.returns
 returns c =
-    let l = c in
-    let s = l in
-    each_end (adds s.args.xs.now) s.args.per s.args.j s.args.n s.args.stream.now s.args.results.now l.loop-t.results l.loop-t.t l.loop-t.invariant.1 (omega arith)
+    each_end (adds c.args.xs.now) c.args.per c.args.j c.args.n c.args.stream.now c.args.results.now c.loop-t.results c.loop-t.t c.loop-t.invariant.1 (omega arith)

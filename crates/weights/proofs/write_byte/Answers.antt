@@ -16,5 +16,4 @@ bounds-weights-start-4 c = simp length-set (omega arith)
 
 pub returns : goal.returns
 returns c =
-    let s = c in
-    byte_written s.args.table.now s.args.byte s.args.start s.args.weights.now s.requires.0 (search rules)
+    byte_written c.args.table.now c.args.byte c.args.start c.args.weights.now c.requires.0 (search rules)

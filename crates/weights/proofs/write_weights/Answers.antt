@@ -11,23 +11,16 @@ loop-k-init c = (omega arith, (omega arith, refl, refl))
 
 pub write_byte-requires : goal.write_byte-requires
 write_byte-requires c =
-    let l = c in
-    let s = l in
-    (s.requires.0, (s.requires.1.0, omega (arith, l.loop-k.invariant.1.1, s.requires.1.1, c.loop-k-test.true)))
+    (c.requires.0, (c.requires.1.0, omega (arith, c.loop-k.invariant.1.1, c.requires.1.1, c.loop-k-test.true)))
 
 pub loop-k-preserved : goal.loop-k-preserved
 loop-k-preserved c =
-    let w = c in
-    let l = w in
-    let s = l in
-    let bytes = s.args.bytes.now in
-    (omega arith, rw w.write_byte.ensures (byte_walked bytes s.args.weights.now s.requires.1.1 l.loop-k.weights l.loop-k.k w.loop-k-test.true l.loop-k.invariant.1))
+    let bytes = c.args.bytes.now in
+    (omega arith, rw c.write_byte.ensures (byte_walked bytes c.args.weights.now c.requires.1.1 c.loop-k.weights c.loop-k.k c.loop-k-test.true c.loop-k.invariant.1))
 
 pub shape_of-weights : goal.shape_of-weights
 shape_of-weights c = c.loop-k.invariant.1.1
 
 pub returns : goal.returns
 returns c =
-    let l = c in
-    let s = l in
-    l.loop-k.invariant.1.2 ∙ walked_end _ _ (4 * l.loop-k.k) (weights_long s.args.bytes.now s.args.weights.now s.requires.1.1) (omega arith)
+    c.loop-k.invariant.1.2 ∙ walked_end _ _ (4 * c.loop-k.k) (weights_long c.args.bytes.now c.args.weights.now c.requires.1.1) (omega arith)

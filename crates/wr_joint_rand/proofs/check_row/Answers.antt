@@ -10,10 +10,8 @@ use Rattle.wr_joint_rand.proofs.check_row.Goals as goal
 
 pub returns-then-seeded : goal.returns-then-seeded
 returns-then-seeded c =
-    let s = c in
-    c.check_len.ensures ∙ rule_is s.args.stream_len s.args.row.now s.requires (bytes_all s.args.row.now (λ j h. (c.shared_slice_known-1.given j).fits)) ∙ ap (λ (bytes : List ℕ). row_rule 2 (length bytes) s.args.stream_len) (sym (from_seed s.args.seeded s.args.stream_len s.args.row.now c.if-seeded.true))
+    c.check_len.ensures ∙ rule_is c.args.stream_len c.args.row.now c.requires (bytes_all c.args.row.now (λ j h. (c.shared_slice_known-1.given j).fits)) ∙ ap (λ (bytes : List ℕ). row_rule 2 (length bytes) c.args.stream_len) (sym (from_seed c.args.seeded c.args.stream_len c.args.row.now c.if-seeded.true))
 
 pub returns : goal.returns
 returns c =
-    let s = c in
-    c.check_len-2.ensures ∙ ap (λ (bytes : List ℕ). row_rule 2 (length bytes) s.args.stream_len) (sym (lent s.args.seeded s.args.stream_len s.args.row.now c.if-seeded.false))
+    c.check_len-2.ensures ∙ ap (λ (bytes : List ℕ). row_rule 2 (length bytes) c.args.stream_len) (sym (lent c.args.seeded c.args.stream_len c.args.row.now c.if-seeded.false))

@@ -10,7 +10,6 @@ slice_bounds-fill-end-2 c = sym (length-take-le c.args.count c.args.buffer.now c
 
 pub returns : goal.returns
 returns c =
-    let s = c in
     let f = c.fill in
-    let l = length-take-le s.args.count s.args.buffer.now s.requires.1 in
-    (drawn_front s.args.count _ f.new.out _ s.args.stream l f.ensures.0, (f.ensures.1.0 ∙ ap (λ n. after n s.args.stream) l, f.ensures.1.1))
+    let l = length-take-le c.args.count c.args.buffer.now c.requires.1 in
+    (drawn_front c.args.count _ f.new.out _ c.args.stream l f.ensures.0, (f.ensures.1.0 ∙ ap (λ n. after n c.args.stream) l, f.ensures.1.1))

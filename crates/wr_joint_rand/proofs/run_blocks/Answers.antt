@@ -25,13 +25,11 @@ nonzero_div-most c = c.requires.at_bound.1.0.0
 
 pub loop-t-init : goal.loop-t-init
 loop-t-init c =
-    let s = c in
-    (omega arith, refl, refl, s.requires.at_bound.0, start_is s.args.per s.args.stream, none p64 s.args.per s.args.gradient.now s.args.stream s.args.results.now)
+    (omega arith, refl, refl, c.requires.at_bound.0, start_is c.args.per c.args.stream, none p64 c.args.per c.args.gradient.now c.args.stream c.args.results.now)
 
 pub overflow_add-t : goal.overflow_add-t
 overflow_add-t c =
-    let s = c in
-    record { fits = omega (arith, c.loop-t.invariant.0, s.requires.at_bound.1.1, s.requires.below.1.1, div-le_self (length s.args.buffer.now) s.args.per) }
+    record { fits = omega (arith, c.loop-t.invariant.0, c.requires.at_bound.1.1, c.requires.below.1.1, div-le_self (length c.args.buffer.now) c.args.per) }
 
 pub at_most-end-requires : goal.at_most-end-requires
 at_most-end-requires c = omega arith
@@ -59,13 +57,12 @@ slice_bounds-run_block-end c = omega (arith, block_of c.before.before.before.bef
 
 pub run_block-requires : goal.run_block-requires
 run_block-requires c =
-    let s = c in
     let l = c.loop-t in
     let b = block_of c.before.before.before.before.before.before in
     let mid = part_long l.t c.at_most-end.result l.results (omega (arith, b)) b.inside in
     record {
-      per_in_bounds = (fewer s.args.per _ _ _ _ mid b.room (sym (c.draw-state.auto.buffer ∙ l.invariant.1)), (s.requires.below.1.0, omega (arith, s.requires.at_bound.1)));
-      below = s.requires.below.0;
+      per_in_bounds = (fewer c.args.per _ _ _ _ mid b.room (sym (c.draw-state.auto.buffer ∙ l.invariant.1)), (c.requires.below.1.0, omega (arith, c.requires.at_bound.1)));
+      below = c.requires.below.0;
     }
 
 pub loop-t-smaller : goal.loop-t-smaller
@@ -73,7 +70,6 @@ loop-t-smaller c = omega (arith, block_of c.before.before.before.before.before.b
 
 pub loop-t-preserved : goal.loop-t-preserved
 loop-t-preserved c =
-    let s = c in
     let l = c.loop-t in
     let b = block_of c.before.before.before.before.before.before.before.before.before in
     let d = c.draw-state in
@@ -84,8 +80,8 @@ loop-t-preserved c =
       d.auto.buffer ∙ l.invariant.1,
       same_len_mid l.t (e - l.t) l.results r.new.results r.auto.results ∙ l.invariant.2,
       d.ensures.1.1,
-      after_more l.t e s.args.per s.args.stream l.state _ (omega (arith, b)) l.invariant.4 d.ensures.1.0,
-      next p64 s.args.per s.args.gradient.now s.args.stream l.t e _ _ l.results _ _ (omega (arith, b), b.inside) (r.auto.results ∙ mid) mid (omega (arith, b.room, l.invariant.1, d.auto.buffer)) (d.ensures.0 ∙ ap (drawn ((e - l.t) * s.args.per)) l.invariant.4) l.invariant.5 r.ensures,
+      after_more l.t e c.args.per c.args.stream l.state _ (omega (arith, b)) l.invariant.4 d.ensures.1.0,
+      next p64 c.args.per c.args.gradient.now c.args.stream l.t e _ _ l.results _ _ (omega (arith, b), b.inside) (r.auto.results ∙ mid) mid (omega (arith, b.room, l.invariant.1, d.auto.buffer)) (d.ensures.0 ∙ ap (drawn ((e - l.t) * c.args.per)) l.invariant.4) l.invariant.5 r.ensures,
     )
 
 pub shape_of-buffer : goal.shape_of-buffer
@@ -96,6 +92,5 @@ shape_of-results c = c.loop-t.invariant.2
 
 pub returns : goal.returns
 returns c =
-    let s = c in
     let l = c.loop-t in
-    all p64 s.args.per s.args.gradient.now s.args.stream (length s.args.results.now) l.results (sym l.invariant.2) (subst (λ (t : ℕ). Done p64 s.args.per s.args.gradient.now s.args.stream t l.results) (omega (arith, c.loop-t-test.false, l.invariant.0, l.invariant.2)) l.invariant.5)
+    all p64 c.args.per c.args.gradient.now c.args.stream (length c.args.results.now) l.results (sym l.invariant.2) (subst (λ (t : ℕ). Done p64 c.args.per c.args.gradient.now c.args.stream t l.results) (omega (arith, c.loop-t-test.false, l.invariant.0, l.invariant.2)) l.invariant.5)

@@ -75,17 +75,16 @@ begun_is c = subst (λ (n : ℕ). Begun c.args.nonce.now c.args.seeds.now (draw_
 took : (c : After-take_all-parts) → TookPiece p64 c.begin_parts-begun.result c.take_all-parts.result (gradient_and_norm Field64 c.args.param c.args.gradient.now)
 unfolding pine_of
 took c =
-    let s = c in
-    let i = s.args.param in
-    let g = s.args.gradient.now in
-    let e = s.requires.pine_value.0 in
+    let i = c.args.param in
+    let g = c.args.gradient.now in
+    let e = c.requires.pine_value.0 in
     let begun = c.begin_parts-begun.result in
     let parts = c.take_all-parts.result in
     let u = c.sub-u.result in
-    let t : TookPiece p64 begun parts (elements p64 i.frac_bits g ++ (bits (sq_norm_bits_of i) s.args.v ++ bits (sq_norm_bits_of i) u)) =
-    subst (λ (R : Pine). TookPiece p64 begun parts (elements p64 R.frac_bits g ++ (bits R.sq_norm_bits s.args.v ++ bits R.sq_norm_bits u))) e c.take_all-parts.ensures in
-    let eu : u ≡ sub_mod p64 (sq_norm_bound_of i) s.args.v = c.sub-u.ensures ∙ ap (λ (R : Pine). sub_mod p64 R.sq_norm_bound s.args.v) e in
-    took_front Field64 i g s.args.nonce.now s.args.seeds.now s.requires.gradient_len.0 begun parts s.args.v u s.requires.usable.1 eu t
+    let t : TookPiece p64 begun parts (elements p64 i.frac_bits g ++ (bits (sq_norm_bits_of i) c.args.v ++ bits (sq_norm_bits_of i) u)) =
+    subst (λ (R : Pine). TookPiece p64 begun parts (elements p64 R.frac_bits g ++ (bits R.sq_norm_bits c.args.v ++ bits R.sq_norm_bits u))) e c.take_all-parts.ensures in
+    let eu : u ≡ sub_mod p64 (sq_norm_bound_of i) c.args.v = c.sub-u.ensures ∙ ap (λ (R : Pine). sub_mod p64 R.sq_norm_bound c.args.v) e in
+    took_front Field64 i g c.args.nonce.now c.args.seeds.now c.requires.gradient_len.0 begun parts c.args.v u c.requires.usable.1 eu t
 
 pub overflow_add-len : goal.overflow_add-len
 overflow_add-len c = record { fits = omega (arith, sized c.before.before.before.before) }
@@ -95,11 +94,10 @@ sub-u-requires c = (norm_room c.before.before.before.before.before, v_below c.be
 
 pub take_all-parts-requires : goal.take_all-parts-requires
 take_all-parts-requires c =
-    let s = c in
     record {
       placed = c.begin_parts-begun.ensures.begun.placed;
-      usable = (usable s.before.before.before.before.before.before, scale_is s.args.param s.args.pine s.requires.pine_value.0);
-      q_bound = omega (arith, bits_are s.before.before.before.before.before.before, (sizes_64 s.args.param s.requires.pine_value.1).norm_bits);
+      usable = (usable c.before.before.before.before.before.before, scale_is c.args.param c.args.pine c.requires.pine_value.0);
+      q_bound = omega (arith, bits_are c.before.before.before.before.before.before, (sizes_64 c.args.param c.requires.pine_value.1).norm_bits);
     }
 
 pub overflow_mul-wanted : goal.overflow_mul-wanted
@@ -122,21 +120,20 @@ into_seed-helper-requires c = c.take_all-parts.ensures.placed.helper
 
 pub returns : goal.returns
 returns c =
-    let s = c in
-    let i = s.args.param in
-    let g = s.args.gradient.now in
-    let nonce = s.args.nonce.now in
-    let seeds = s.args.seeds.now in
-    let h = s.requires.gradient_len.0 in
+    let i = c.args.param in
+    let g = c.args.gradient.now in
+    let nonce = c.args.nonce.now in
+    let seeds = c.args.seeds.now in
+    let h = c.requires.gradient_len.0 in
     let begun = c.begin_parts-begun.result in
     let parts = c.take_all-parts.result in
     let b = begun_is c.before.before.before.before.before.before.before.before.before.before in
     let is = c.begin_parts-begun.ensures.by_index (encoded_input_len_of i) in
     let t = took c.before.before.before.before.before.before.before.before in
-    let wanted : s.args.pine.encoded_input_len - (length g + 2 * s.args.pine.sq_norm_bits) ≡ encoded_input_len_of i - gradient_and_norm_len i = λ j. long s.before.before.before.before.before.before.before.before.before.before.before.before.before.before j - (h j + 2 * bits_are s.before.before.before.before.before.before.before.before.before.before.before.before.before.before j) in
+    let wanted : c.args.pine.encoded_input_len - (length g + 2 * c.args.pine.sq_norm_bits) ≡ encoded_input_len_of i - gradient_and_norm_len i = λ j. long c.before.before.before.before.before.before.before.before.before.before.before.before.before.before j - (h j + 2 * bits_are c.before.before.before.before.before.before.before.before.before.before.before.before.before.before j) in
     let bytes-n = bytes_all nonce (λ j _. (c.shared_slice_known-2-1.given j).fits) in
     let bytes-s = bytes_all seeds (λ j _. (c.shared_slice_known-3-1.given j).fits) in
     record {
-      enough_value = c.has_values-enough.ensures ∙ enough_is Field64 i g nonce seeds h begun parts b is (tests s.before.before.before.before.before.before.before.before.before.before.before.before.before.before) t _ wanted;
-      seed_value = λ met. wr_seed_is Field64 i g nonce seeds h begun parts b is (tests s.before.before.before.before.before.before.before.before.before.before.before.before.before.before) t met _ _ _ bytes-n bytes-s c.into_seed-leader.ensures c.into_seed-helper.ensures c.joint_rand_seed-seed.ensures;
+      enough_value = c.has_values-enough.ensures ∙ enough_is Field64 i g nonce seeds h begun parts b is (tests c.before.before.before.before.before.before.before.before.before.before.before.before.before.before) t _ wanted;
+      seed_value = λ met. wr_seed_is Field64 i g nonce seeds h begun parts b is (tests c.before.before.before.before.before.before.before.before.before.before.before.before.before.before) t met _ _ _ bytes-n bytes-s c.into_seed-leader.ensures c.into_seed-helper.ensures c.joint_rand_seed-seed.ensures;
     }

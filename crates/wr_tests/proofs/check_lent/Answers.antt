@@ -20,8 +20,7 @@ passed c = ap (λ (a : Answer). a.number) (sym c.check_param-inputs.ensures) ∙
 
 pub returns-then-inputs-ne0 : goal.returns-then-inputs-ne0
 returns-then-inputs-ne0 c =
-    let s = c in
-    stopped Field64 s.args.param s.args.gradient.now s.args.stream.now s.args.results.now _ c.check_param-inputs.ensures c.if-inputs-ne0.true
+    stopped Field64 c.args.param c.args.gradient.now c.args.stream.now c.args.results.now _ c.check_param-inputs.ensures c.if-inputs-ne0.true
 
 pub stream_len-requires : goal.stream_len-requires
 stream_len-requires c =
@@ -30,6 +29,4 @@ stream_len-requires c =
 
 pub returns : goal.returns
 returns c =
-    let a = c in
-    let s = a in
-    tests_answer Field64 s.args.param s.args.gradient.now s.args.stream.now s.args.results.now _ _ (passed a.before.before.before.before) (c.check_len-row_2.ensures ∙ ap (row_rule 2 (length s.args.stream.now)) c.stream_len.ensures) c.check_rows.ensures
+    tests_answer Field64 c.args.param c.args.gradient.now c.args.stream.now c.args.results.now _ _ (passed c.before.before.before.before) (c.check_len-row_2.ensures ∙ ap (row_rule 2 (length c.args.stream.now)) c.stream_len.ensures) c.check_rows.ensures

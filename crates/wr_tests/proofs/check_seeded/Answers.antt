@@ -32,8 +32,7 @@ passed c = ap (λ (a : Answer). a.number) (sym c.check_param-inputs.ensures) ∙
 
 pub returns-then-inputs-ne0 : goal.returns-then-inputs-ne0
 returns-then-inputs-ne0 c =
-    let s = c in
-    stopped Field64 s.args.param s.args.gradient.now (bytes s.before.before.before.before.before.before.before) s.args.results.now _ c.check_param-inputs.ensures c.if-inputs-ne0.true
+    stopped Field64 c.args.param c.args.gradient.now (bytes c.before.before.before.before.before.before.before) c.args.results.now _ c.check_param-inputs.ensures c.if-inputs-ne0.true
 
 pub stream_len-requires : goal.stream_len-requires
 stream_len-requires c =
@@ -45,6 +44,4 @@ check_row-row_2-requires c = rw c.stream_len.ensures (stream_some Field64 _ (par
 
 pub returns : goal.returns
 returns c =
-    let a = c in
-    let s = a in
-    tests_answer Field64 s.args.param s.args.gradient.now (bytes s.before.before.before.before.before.before.before.before.before.before) s.args.results.now _ _ (passed a.before.before.before.before) (c.check_row-row_2.ensures ∙ ap (λ (n : ℕ). row_rule 2 (length (wr_stream n s.args.seed.now)) n) c.stream_len.ensures) c.check_rows.ensures
+    tests_answer Field64 c.args.param c.args.gradient.now (bytes c.before.before.before.before.before.before.before.before.before.before) c.args.results.now _ _ (passed c.before.before.before.before) (c.check_row-row_2.ensures ∙ ap (λ (n : ℕ). row_rule 2 (length (wr_stream n c.args.seed.now)) n) c.stream_len.ensures) c.check_rows.ensures

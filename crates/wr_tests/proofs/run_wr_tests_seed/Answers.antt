@@ -23,24 +23,21 @@ bytes s = wr_stream (stream_len_of s.args.param.num_wr_tests s.args.param.dimens
 
 pub returns-then-answer-ne0 : goal.returns-then-answer-ne0
 returns-then-answer-ne0 c =
-    let s = c in
-    refused Field64 s.args.param s.args.gradient.now (bytes s.before.before.before.before.before.before.before) s.args.results.now _ c.check_seeded-answer.ensures c.if-answer-ne0.true
+    refused Field64 c.args.param c.args.gradient.now (bytes c.before.before.before.before.before.before.before) c.args.results.now _ c.check_seeded-answer.ensures c.if-answer-ne0.true
 
 pub run_from_seed-requires : goal.run_from_seed-requires
 run_from_seed-requires c =
-    let s = c in
     let v = c.check_seeded-answer.ensures in
     let z = c.if-answer-ne0.false in
-    let m = met Field64 s.args.param s.args.gradient.now (bytes s.before.before.before.before.before.before.before.before) s.args.results.now _ v z in
-    let w = room Field64 s.args.param s.args.gradient.now (bytes s.before.before.before.before.before.before.before.before) s.args.results.now _ v z words_64 in
+    let m = met Field64 c.args.param c.args.gradient.now (bytes c.before.before.before.before.before.before.before.before) c.args.results.now _ v z in
+    let w = room Field64 c.args.param c.args.gradient.now (bytes c.before.before.before.before.before.before.before.before) c.args.results.now _ v z words_64 in
     record {
-      seed_len = (is_seed _ s.args.seed.now w.some (le_of_eq (sym m.row_2)), w.tests);
+      seed_len = (is_seed _ c.args.seed.now w.some (le_of_eq (sym m.row_2)), w.tests);
       below = (m.below, w.per);
     }
 
 pub returns : goal.returns
 returns c =
-    let s = c in
     let v = c.check_seeded-answer.ensures in
     let z = c.if-answer-ne0.false in
-    done Field64 s.args.param s.args.gradient.now (bytes s.before.before.before.before.before.before.before.before.before.before.before) s.args.results.now _ v z words_64 _ (rw (room Field64 s.args.param s.args.gradient.now (bytes s.before.before.before.before.before.before.before.before.before.before.before) s.args.results.now _ v z words_64).whole at c.run_from_seed.ensures)
+    done Field64 c.args.param c.args.gradient.now (bytes c.before.before.before.before.before.before.before.before.before.before.before) c.args.results.now _ v z words_64 _ (rw (room Field64 c.args.param c.args.gradient.now (bytes c.before.before.before.before.before.before.before.before.before.before.before) c.args.results.now _ v z words_64).whole at c.run_from_seed.ensures)

@@ -27,8 +27,7 @@ few c =
 
 pub returns-then-inputs-ne0 : goal.returns-then-inputs-ne0
 returns-then-inputs-ne0 c =
-    let s = c in
-    stopped Field128 s.args.param s.args.gradient.now s.args.stream.now s.args.results.now _ c.check_param-inputs.ensures c.if-inputs-ne0.true
+    stopped Field128 c.args.param c.args.gradient.now c.args.stream.now c.args.results.now _ c.check_param-inputs.ensures c.if-inputs-ne0.true
 
 pub stream_len-requires : goal.stream_len-requires
 stream_len-requires c = few c.before
@@ -38,6 +37,4 @@ check_rows-requires c = few c.before.before.before
 
 pub returns : goal.returns
 returns c =
-    let a = c in
-    let s = a in
-    tests_answer Field128 s.args.param s.args.gradient.now s.args.stream.now s.args.results.now _ _ (passed a.before.before.before.before) (c.check_len-row_2.ensures ∙ ap (row_rule 2 (length s.args.stream.now)) c.stream_len.ensures) c.check_rows.ensures
+    tests_answer Field128 c.args.param c.args.gradient.now c.args.stream.now c.args.results.now _ _ (passed c.before.before.before.before) (c.check_len-row_2.ensures ∙ ap (row_rule 2 (length c.args.stream.now)) c.stream_len.ensures) c.check_rows.ensures

@@ -6,13 +6,11 @@ use Rattle.wr_tests128.proofs.run_wr_tests.Goals as goal
 
 pub returns-then-answer-ne0 : goal.returns-then-answer-ne0
 returns-then-answer-ne0 c =
-    let s = c in
-    refused Field128 s.args.param s.args.gradient.now s.args.stream.now s.args.results.now _ c.check_lent-answer.ensures c.if-answer-ne0.true
+    refused Field128 c.args.param c.args.gradient.now c.args.stream.now c.args.results.now _ c.check_lent-answer.ensures c.if-answer-ne0.true
 
 pub run_block-requires : goal.run_block-requires
 run_block-requires c =
-    let s = c in
-    let both = asked s.args.param s.args.gradient.now s.args.stream.now s.args.results.now _ c.check_lent-answer.ensures c.if-answer-ne0.false in
+    let both = asked c.args.param c.args.gradient.now c.args.stream.now c.args.results.now _ c.check_lent-answer.ensures c.if-answer-ne0.false in
     record {
       per_in_bounds = both.0;
       whole = both.1;
@@ -20,5 +18,4 @@ run_block-requires c =
 
 pub returns : goal.returns
 returns c =
-    let s = c in
-    left s.args.param s.args.gradient.now s.args.stream.now s.args.results.now _ c.check_lent-answer.ensures c.if-answer-ne0.false _ c.run_block.ensures
+    left c.args.param c.args.gradient.now c.args.stream.now c.args.results.now _ c.check_lent-answer.ensures c.if-answer-ne0.false _ c.run_block.ensures

@@ -12,12 +12,9 @@ use Rattle.xof.proofs.fill.Goals as goal
 
 pub returns : goal.returns
 returns c =
-    let stream = c in
-    let known = stream in
-    let s = known in
-    let seed = s.args.seed in
-    let binder = s.args.binder.now in
-    let n = length s.args.out.now in
+    let seed = c.args.seed in
+    let binder = c.args.binder.now in
+    let n = length c.args.out.now in
     let fits : (j : ℕ) → Fits w8 (get_or seed j 0) = λ j. search rules in
-    c.fill.ensures.0 ∙ ap (drawn n) stream.seed_stream.ensures.0
-    ∙ drawn_is seed s.args.usage binder n (bytes_all seed (λ j h. (fits j).fits)) (bytes_all binder (λ j h. (known.shared_slice_known-1.given j).fits))
+    c.fill.ensures.0 ∙ ap (drawn n) c.seed_stream.ensures.0
+    ∙ drawn_is seed c.args.usage binder n (bytes_all seed (λ j h. (fits j).fits)) (bytes_all binder (λ j h. (c.shared_slice_known-1.given j).fits))

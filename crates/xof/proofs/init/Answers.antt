@@ -8,9 +8,7 @@ use Rattle.xof.proofs.init.Goals as goal
 
 pub returns : goal.returns
 returns c =
-    let a = c in
-    let n = a in
-    let s = n in (
-      parts_absorbed (7 ∷ dst algorithm_id s.args.usage) s.args.seed a.absorb.result _ (a.absorb.ensures.0 ∙ ap₂ absorb_all n.tag-tag.ensures n.new.ensures.0) c.absorb-2.ensures.0,
+    let s = c in (
+      parts_absorbed (7 ∷ dst algorithm_id s.args.usage) s.args.seed c.absorb.result _ (c.absorb.ensures.0 ∙ ap₂ absorb_all c.tag-tag.ensures c.new.ensures.0) c.absorb-2.ensures.0,
       c.absorb-2.ensures.1,
     )

@@ -7,6 +7,5 @@ use Rattle.xof.proofs.seed_of.Goals as goal
 
 pub returns : goal.returns
 returns c =
-    let s = c in
-    let row = s.args.row.now in
+    let row = c.args.row.now in
     elements_are 16 0 row (omega arith) ∙ take_all 16 row (omega arith)

@@ -45,23 +45,16 @@ whole_high c = search rules
 
 pub returns : goal.returns
 returns c =
-    let q = c in
-    let y = q in
-    let x = y in
-    let v = x in
-    let u = v in
-    let t = u in
-    let s = t in
-    let a = s.args.a in
-    let b = s.args.b in
-    let r = t.without_p-t.result.made in
-    let ul = u.plus-less_low.result in
-    let vl = v.plus_with-less.result in
-    let xl = x.plus-whole_low.result in
-    let yl = y.plus_with-whole.result in
+    let a = c.args.a in
+    let b = c.args.b in
+    let r = c.without_p-t.result.made in
+    let ul = c.plus-less_low.result in
+    let vl = c.plus_with-less.result in
+    let xl = c.plus-whole_low.result in
+    let yl = c.plus_with-whole.result in
     record {
-      made_value = joined_is a.low a.high b.low b.high r.low r.high t.without_p-t.result.below ul.low ul.high vl.low vl.high xl.low xl.high yl.low yl.high _ _ s.requires
-          (b_words s.before.before.before.before.before.before.before.before).0 (b_words s.before.before.before.before.before.before.before.before).1 (rest_words t.before.before.before.before.before.before.before).0 (rest_words t.before.before.before.before.before.before.before).1 (less_low u.before.before.before.before.before) (less_high v.before.before.before.before) (whole_low x.before.before.before) (whole_high y.before.before) (flag_fits (number_of b) _ t.without_p-t.ensures.below_value) v.plus_with-less.ensures.1
-          t.without_p-t.ensures.p128_value u.plus-less_low.ensures.0 v.plus_with-less.ensures.0 x.plus-whole_low.ensures.0 y.plus_with-whole.ensures.0 q.pick.ensures c.pick-2.ensures;
-      below_value = t.without_p-t.ensures.below_value;
+      made_value = joined_is a.low a.high b.low b.high r.low r.high c.without_p-t.result.below ul.low ul.high vl.low vl.high xl.low xl.high yl.low yl.high _ _ c.requires
+          (b_words c.before.before.before.before.before.before.before.before).0 (b_words c.before.before.before.before.before.before.before.before).1 (rest_words c.before.before.before.before.before.before.before).0 (rest_words c.before.before.before.before.before.before.before).1 (less_low c.before.before.before.before.before) (less_high c.before.before.before.before) (whole_low c.before.before.before) (whole_high c.before.before) (flag_fits (number_of b) _ c.without_p-t.ensures.below_value) c.plus_with-less.ensures.1
+          c.without_p-t.ensures.p128_value c.plus-less_low.ensures.0 c.plus_with-less.ensures.0 c.plus-whole_low.ensures.0 c.plus_with-whole.ensures.0 c.pick.ensures c.pick-2.ensures;
+      below_value = c.without_p-t.ensures.below_value;
     }

@@ -20,10 +20,9 @@ After-minus_with-high = lts.After-minus_with tie.the-claims reads.Pre reads.Post
 
 pub sub-requires : goal.sub-requires
 sub-requires c =
-    let i = c in
-    let t = i in (
+    let t = c in (
       subst (λ (n : ℕ). n < p128) (sym c.reduce-of_field.ensures) (mod-lt _ (lit< tt)),
-      le_of_lt (so_below (number_of t.args.b) (sym t.without_p-t.ensures.below_value ∙ i.if-t-eq1.true)),
+      le_of_lt (so_below (number_of t.args.b) (sym t.without_p-t.ensures.below_value ∙ c.if-t-eq1.true)),
     )
 
 -- two words of four
@@ -32,14 +31,11 @@ lower_two l h = ap (λ (n : ℕ). n + l) (zero-add (h * 2 ^ 64))
 
 pub returns-then-t-eq1 : goal.returns-then-t-eq1
 returns-then-t-eq1 c =
-    let d = c in
-    let i = d in
-    let t = i in
-    let r = t.args.r in
-    let b = number_of t.args.b in
+    let r = c.args.r in
+    let b = number_of c.args.b in
     c.sub.ensures
-    ∙ ap (λ (n : ℕ). sub_mod p128 n b) (d.reduce-of_field.ensures ∙ ap (λ (n : ℕ). n % p128) (lower_two r.low r.high))
-    ∙ parted_below (number_of r) b (so_below b (sym t.without_p-t.ensures.below_value ∙ i.if-t-eq1.true))
+    ∙ ap (λ (n : ℕ). sub_mod p128 n b) (c.reduce-of_field.ensures ∙ ap (λ (n : ℕ). n % p128) (lower_two r.low r.high))
+    ∙ parted_below (number_of r) b (so_below b (sym c.without_p-t.ensures.below_value ∙ c.if-t-eq1.true))
 
 words : (c : Start) → ((c.args.r.low < 2 ^ 64) × (c.args.r.high < 2 ^ 64)) × ((c.args.b.low < 2 ^ 64) × (c.args.b.high < 2 ^ 64))
 words c = ((search rules, search rules), (search rules, search rules))
@@ -52,14 +48,10 @@ high_below c = search rules
 
 pub returns : goal.returns
 returns c =
-    let m = c in
-    let i = m in
-    let t = i in
-    let s = t in
-    let r = s.args.r in
-    let b = s.args.b in
-    let l = m.minus-low.result in
+    let r = c.args.r in
+    let b = c.args.b in
+    let l = c.minus-low.result in
     let h = c.minus_with-high.result in
-    let w = words s.before.before.before.before.before in
-    parted_above (number_of r) (number_of b) _ h.high (so_above (number_of b) (λ e. i.if-t-eq1.false (t.without_p-t.ensures.below_value ∙ e))) (word_pair r.low r.high w.0.0 w.0.1) (word_pair b.low b.high w.1.0 w.1.1) (word_pair l.low h.low (low_below m.before) (high_below c))
-    (difference_of_words (2 ^ 64) r.low r.high b.low b.high l.low l.high h.low h.high m.minus-low.ensures.0 c.minus_with-high.ensures.0)
+    let w = words c.before.before.before.before.before in
+    parted_above (number_of r) (number_of b) _ h.high (so_above (number_of b) (λ e. c.if-t-eq1.false (c.without_p-t.ensures.below_value ∙ e))) (word_pair r.low r.high w.0.0 w.0.1) (word_pair b.low b.high w.1.0 w.1.1) (word_pair l.low h.low (low_below c.before) (high_below c))
+    (difference_of_words (2 ^ 64) r.low r.high b.low b.high l.low l.high h.low h.high c.minus-low.ensures.0 c.minus_with-high.ensures.0)

@@ -18,5 +18,4 @@ overflow_add-num c = omega (arith, product_room c.args.numerator c.args.norm_bou
 
 pub overflow_cast-result : goal.overflow_cast-result
 overflow_cast-result c =
-    let s = c in
-    omega (arith, c.bits.ensures, exponent_room s.args.numerator s.args.denominator s.args.norm_bound (omega arith) s.requires.0 (omega (arith, s.requires.1)))
+    omega (arith, c.bits.ensures, exponent_room c.args.numerator c.args.denominator c.args.norm_bound (omega arith) c.requires.0 (omega (arith, c.requires.1)))

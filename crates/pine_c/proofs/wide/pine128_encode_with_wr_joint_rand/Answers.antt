@@ -7,10 +7,8 @@ use Rattle.pine_c.proofs.wide.pine128_encode_with_wr_joint_rand.Goals as goal
 
 pub returns-then-results-eq0 : goal.returns-then-results-eq0
 returns-then-results-eq0 c =
-    let s = c in
-    c.encode_with_wr_joint_rand.ensures ∙ ap (λ (i : PineParam). encode_of Field128 i s.args.gradient.now s.args.stream.now s.args.measurement.now s.args.results.now) c.param_of-param.ensures
+    c.encode_with_wr_joint_rand.ensures ∙ ap (λ (i : PineParam). encode_of Field128 i c.args.gradient.now c.args.stream.now c.args.measurement.now c.args.results.now) c.param_of-param.ensures
 
 pub returns : goal.returns
 returns c =
-    let s = c in
-    c.encode_with_wr_joint_rand-answer.ensures ∙ ap (λ (i : PineParam). encode_of Field128 i s.args.gradient.now s.args.stream.now s.args.measurement.now s.args.results.now) c.param_of-param.ensures
+    c.encode_with_wr_joint_rand-answer.ensures ∙ ap (λ (i : PineParam). encode_of Field128 i c.args.gradient.now c.args.stream.now c.args.measurement.now c.args.results.now) c.param_of-param.ensures

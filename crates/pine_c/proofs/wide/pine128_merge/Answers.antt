@@ -7,5 +7,4 @@ use Rattle.pine_c.proofs.wide.pine128_merge.Goals as goal
 
 pub returns : goal.returns
 returns c =
-    let s = c in
-    c.merge.ensures ∙ ap (λ (i : PineParam). accumulate_of Field128 i s.args.agg.now s.args.other.now) c.param_of.ensures
+    c.merge.ensures ∙ ap (λ (i : PineParam). accumulate_of Field128 i c.args.agg.now c.args.other.now) c.param_of.ensures

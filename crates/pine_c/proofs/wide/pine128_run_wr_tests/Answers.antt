@@ -7,10 +7,8 @@ use Rattle.pine_c.proofs.wide.pine128_run_wr_tests.Goals as goal
 
 pub returns-then-results-eq0 : goal.returns-then-results-eq0
 returns-then-results-eq0 c =
-    let s = c in
-    c.run_wr_tests.ensures ∙ ap (λ (i : PineParam). run_tests_of Field128 i s.args.gradient.now s.args.stream.now s.args.results.now) c.param_of-param.ensures
+    c.run_wr_tests.ensures ∙ ap (λ (i : PineParam). run_tests_of Field128 i c.args.gradient.now c.args.stream.now c.args.results.now) c.param_of-param.ensures
 
 pub returns : goal.returns
 returns c =
-    let s = c in
-    c.run_wr_tests-answer.ensures ∙ ap (λ (i : PineParam). run_tests_of Field128 i s.args.gradient.now s.args.stream.now s.args.results.now) c.param_of-param.ensures
+    c.run_wr_tests-answer.ensures ∙ ap (λ (i : PineParam). run_tests_of Field128 i c.args.gradient.now c.args.stream.now c.args.results.now) c.param_of-param.ensures

@@ -7,5 +7,4 @@ use Rattle.pine_c.proofs.wide.pine128_subtract.Goals as goal
 
 pub returns : goal.returns
 returns c =
-    let s = c in
-    c.subtract.ensures ∙ ap (λ (i : PineParam). subtract_of Field128 i s.args.agg.now s.args.share.now) c.param_of.ensures
+    c.subtract.ensures ∙ ap (λ (i : PineParam). subtract_of Field128 i c.args.agg.now c.args.share.now) c.param_of.ensures

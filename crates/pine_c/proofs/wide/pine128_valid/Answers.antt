@@ -8,9 +8,8 @@ use Rattle.pine_c.proofs.wide.pine128_valid.Goals as goal
 
 pub returns : goal.returns
 returns c =
-    let s = c in
     let e = c.param_of.ensures in
     record {
-      result_value = c.valid.ensures.result_value ∙ ap (λ (i : PineParam). valid_of Field128 i s.args.num_shares s.args.full.now s.args.joint_rand.now) e;
+      result_value = c.valid.ensures.result_value ∙ ap (λ (i : PineParam). valid_of Field128 i c.args.num_shares c.args.full.now c.args.joint_rand.now) e;
       gadget_calls_value = λ z. c.valid.ensures.gadget_calls_value z ∙ ap (λ (i : PineParam). gadget_calls_of i) e;
     }

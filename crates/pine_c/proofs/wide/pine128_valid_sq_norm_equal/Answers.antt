@@ -8,9 +8,8 @@ use Rattle.pine_c.proofs.wide.pine128_valid_sq_norm_equal.Goals as goal
 
 pub returns : goal.returns
 returns c =
-    let s = c in
     let e = c.param_of.ensures in
     record {
-      result_value = c.valid_sq_norm_equal.ensures.result_value ∙ ap (λ (i : PineParam). valid_equal_of Field128 i s.args.num_shares s.args.full.now) e;
+      result_value = c.valid_sq_norm_equal.ensures.result_value ∙ ap (λ (i : PineParam). valid_equal_of Field128 i c.args.num_shares c.args.full.now) e;
       gadget_calls_value = λ z. c.valid_sq_norm_equal.ensures.gadget_calls_value z ∙ ap (λ (i : PineParam). gadget_calls_norm i) e;
     }

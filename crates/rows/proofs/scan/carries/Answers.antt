@@ -15,10 +15,9 @@ loop-at-preserved c =
 
 pub returns : goal.returns
 returns c =
-    let l = c in
-    let row = l.args.row.now in
+    let row = c.args.row.now in
     let e = c.part_carries.ensures in
-    let both = seen_all p64 row (length row) _ (omega arith) (seen_part p64 row l.loop-at.at (length row) l.loop-at.seen _ (omega arith, omega arith) e.below e.upper_bound l.loop-at.invariant.1) in
+    let both = seen_all p64 row (length row) _ (omega arith) (seen_part p64 row c.loop-at.at (length row) c.loop-at.seen _ (omega arith, omega arith) e.below e.upper_bound c.loop-at.invariant.1) in
     record {
       below = both.0;
       upper_bound = both.1;

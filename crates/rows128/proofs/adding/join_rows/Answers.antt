@@ -29,9 +29,7 @@ loop-i-init c = ((omega arith, refl, refl), (omega arith, ((tt, tt), counted_non
 
 pub read-a-requires : goal.read-a-requires
 read-a-requires c =
-    let l = c in
-    let s = l in
-    (pairing_room joined s.args.agg.now s.args.share.now l.loop-i.agg l.loop-i.i s.requires.0 s.requires.1 l.loop-i.invariant.0 (omega (arith, elements_length s.args.agg.now))).0
+    (pairing_room joined c.args.agg.now c.args.share.now c.loop-i.agg c.loop-i.i c.requires.0 c.requires.1 c.loop-i.invariant.0 (omega (arith, elements_length c.args.agg.now))).0
 
 pub shape_of-agg-then-is_bad : goal.shape_of-agg-then-is_bad
 shape_of-agg-then-is_bad c = c.loop-i.invariant.0.1
@@ -43,23 +41,18 @@ inside c = omega (arith, elements_length c.args.agg.now)
 -- its words are as they were
 as_they_were : (c : After-read-a) → (c.read-a.result.low ≡ get_or c.args.agg.now (2 * c.loop-i.i) 0) × (c.read-a.result.high ≡ get_or c.args.agg.now (2 * c.loop-i.i + 1) 0)
 as_they_were c =
-    let l = c in
-    let s = l in
-    let k = pairing_kept joined s.args.agg.now s.args.share.now l.loop-i.agg l.loop-i.i s.requires.0 s.requires.1 l.loop-i.invariant.0 (inside c) in
+    let k = pairing_kept joined c.args.agg.now c.args.share.now c.loop-i.agg c.loop-i.i c.requires.0 c.requires.1 c.loop-i.invariant.0 (inside c) in
     (c.read-a.ensures.0 ∙ k.0, c.read-a.ensures.1 ∙ k.1)
 
 as_it_was : (c : After-read-a) → number_of c.read-a.result ≡ get_or (elements_of c.args.agg.now) c.loop-i.i 0
 as_it_was c =
     let w = as_they_were c in
-    let l = c in
-    (λ j. number (w.0 j) (w.1 j)) ∙ sym (element_at l.args.agg.now l.loop-i.i (inside c))
+    (λ j. number (w.0 j) (w.1 j)) ∙ sym (element_at c.args.agg.now c.loop-i.i (inside c))
 
 -- and what stands in the row now
 as_it_is : (c : After-read-a) → number_of c.read-a.result ≡ get_or (elements_of c.loop-i.agg) c.loop-i.i 0
 as_it_is c =
-    let l = c in
-    let s = l in
-    (λ j. number (c.read-a.ensures.0 j) (c.read-a.ensures.1 j)) ∙ sym (element_at l.loop-i.agg l.loop-i.i (pairing_room joined s.args.agg.now s.args.share.now l.loop-i.agg l.loop-i.i s.requires.0 s.requires.1 l.loop-i.invariant.0 (inside c)).0)
+    (λ j. number (c.read-a.ensures.0 j) (c.read-a.ensures.1 j)) ∙ sym (element_at c.loop-i.agg c.loop-i.i (pairing_room joined c.args.agg.now c.args.share.now c.loop-i.agg c.loop-i.i c.requires.0 c.requires.1 c.loop-i.invariant.0 (inside c)).0)
 
 words_below : (c : After-read-a) → (c.read-a.result.low < 2 ^ 64) × (c.read-a.result.high < 2 ^ 64)
 words_below c = (search rules, search rules)
@@ -69,36 +62,25 @@ share_below c = word_pair c.element.result.low c.element.result.high (search rul
 
 pub returns-then-is_bad : goal.returns-then-is_bad
 returns-then-is_bad c =
-    let t = c in
-    let b = t in
-    let l = b in
-    let s = l in
-    let d = elements_of s.args.agg.now in
+    let d = elements_of c.args.agg.now in
     record {
-      agg_after = l.loop-i.invariant.0.2;
-      done_value = bad_here p128 d l.loop-i.i (inside b.before.before.before) (subst (λ (n : ℕ). p128 ≤ n) (as_it_was b.before.before.before) (leb-true _ _ (sym t.is_bad.ensures ∙ c.if-is_bad.true))) l.loop-i.invariant.1.0;
-      below = l.loop-i.invariant.1.1.0;
-      below_le_done = l.loop-i.invariant.1.1.1;
+      agg_after = c.loop-i.invariant.0.2;
+      done_value = bad_here p128 d c.loop-i.i (inside c.before.before.before) (subst (λ (n : ℕ). p128 ≤ n) (as_it_was c.before.before.before) (leb-true _ _ (sym c.is_bad.ensures ∙ c.if-is_bad.true))) c.loop-i.invariant.1.0;
+      below = c.loop-i.invariant.1.1.0;
+      below_le_done = c.loop-i.invariant.1.1.1;
     }
 
 pub element-requires : goal.element-requires
 element-requires c =
-    let b = c in
-    let l = b in
-    let s = l in
-    (pairing_room joined s.args.agg.now s.args.share.now l.loop-i.agg l.loop-i.i s.requires.0 s.requires.1 l.loop-i.invariant.0 (inside b.before.before.before)).1
+    (pairing_room joined c.args.agg.now c.args.share.now c.loop-i.agg c.loop-i.i c.requires.0 c.requires.1 c.loop-i.invariant.0 (inside c.before.before.before)).1
 
 pub join-sum-requires : goal.join-sum-requires
 join-sum-requires c =
-    let e = c in
-    leb-false _ _ (sym e.is_bad.ensures ∙ e.if-is_bad.false)
+    leb-false _ _ (sym c.is_bad.ensures ∙ c.if-is_bad.false)
 
 pub store-requires : goal.store-requires
 store-requires c =
-    let b = c in
-    let l = b in
-    let s = l in
-    (pairing_room joined s.args.agg.now s.args.share.now l.loop-i.agg l.loop-i.i s.requires.0 s.requires.1 l.loop-i.invariant.0 (inside b.before.before.before.before.before.before.before)).0
+    (pairing_room joined c.args.agg.now c.args.share.now c.loop-i.agg c.loop-i.i c.requires.0 c.requires.1 c.loop-i.invariant.0 (inside c.before.before.before.before.before.before.before)).0
 
 -- a count that fits
 fits : (b i n t : ℕ) → b ≤ i → i < n → n < 2 ^ 64 → t ≤ 1 → b + t < 2 ^ 64
@@ -111,38 +93,27 @@ words_fit c =
 
 pub overflow_add-below : goal.overflow_add-below
 overflow_add-below c =
-    let r = c in
-    let b = r in
-    let l = b in
-    let s = l in
-    record { fits = fits l.loop-i.below l.loop-i.i _ _ l.loop-i.invariant.1.1.1.0 (inside b.before.before.before.before.before.before.before.before.before.before.before) (words_fit s.before.before.before.before.before.before.before.before.before.before.before.before.before.before.before.before) (flag_fits (number_of r.element.result) _ r.join-sum.ensures.below_value) }
+    record { fits = fits c.loop-i.below c.loop-i.i _ _ c.loop-i.invariant.1.1.1.0 (inside c.before.before.before.before.before.before.before.before.before.before.before) (words_fit c.before.before.before.before.before.before.before.before.before.before.before.before.before.before.before.before) (flag_fits (number_of c.element.result) _ c.join-sum.ensures.below_value) }
 
 low_below : (c : After-join-sum) → c.join-sum.result.made.low < 2 ^ 64
 low_below c = search rules
 
 pub loop-i-preserved : goal.loop-i-preserved
 loop-i-preserved c =
-    let k = c in
-    let r = k in
-    let y = r in
-    let e = y in
-    let b = e in
-    let l = b in
-    let s = l in
-    let d = s.args.agg.now in
-    let z = s.args.share.now in
-    let h = inside b.before.before.before.before.before.before.before.before.before.before.before in
-    let u = (pairing_room joined d z l.loop-i.agg l.loop-i.i s.requires.0 s.requires.1 l.loop-i.invariant.0 h).1 in
-    let m = r.join-sum.result.made in (
-      subst (λ (a : List ℕ). Pairing joined d z a (l.loop-i.i + 1)) (sym k.store.ensures) (pairing_next joined d z l.loop-i.agg l.loop-i.i s.requires.0 s.requires.1 l.loop-i.invariant.0 _ _ m.low m.high h (as_it_is b.before.before.before.before.before.before.before.before.before.before.before) y.element.ensures (low_below r.before.before.before.before.before.before.before) r.join-sum.ensures.made_value),
+    let d = c.args.agg.now in
+    let z = c.args.share.now in
+    let h = inside c.before.before.before.before.before.before.before.before.before.before.before in
+    let u = (pairing_room joined d z c.loop-i.agg c.loop-i.i c.requires.0 c.requires.1 c.loop-i.invariant.0 h).1 in
+    let m = c.join-sum.result.made in (
+      subst (λ (a : List ℕ). Pairing joined d z a (c.loop-i.i + 1)) (sym c.store.ensures) (pairing_next joined d z c.loop-i.agg c.loop-i.i c.requires.0 c.requires.1 c.loop-i.invariant.0 _ _ m.low m.high h (as_it_is c.before.before.before.before.before.before.before.before.before.before.before) c.element.ensures (low_below c.before.before.before.before.before.before.before) c.join-sum.ensures.made_value),
       (
-        bad_next p128 (elements_of d) l.loop-i.i h (subst (λ (n : ℕ). n < p128) (as_it_was b.before.before.before.before.before.before.before.before.before.before.before) (leb-false _ _ (sym e.is_bad.ensures ∙ e.if-is_bad.false))) l.loop-i.invariant.1.0,
+        bad_next p128 (elements_of d) c.loop-i.i h (subst (λ (n : ℕ). n < p128) (as_it_was c.before.before.before.before.before.before.before.before.before.before.before) (leb-false _ _ (sym c.is_bad.ensures ∙ c.if-is_bad.false))) c.loop-i.invariant.1.0,
         (
           (
-            words_next (2 ^ 64) d l.loop-i.i (element_inside d l.loop-i.i h) l.loop-i.invariant.1.1.0.0 (subst (λ (n : ℕ). n < 2 ^ 64) (as_they_were b.before.before.before.before.before.before.before.before.before.before.before).0 (words_below b.before.before.before.before.before.before.before.before.before.before.before).0) (subst (λ (n : ℕ). n < 2 ^ 64) (as_they_were b.before.before.before.before.before.before.before.before.before.before.before).1 (words_below b.before.before.before.before.before.before.before.before.before.before.before).1),
-            below_next (2 ^ 128) (elements_of z) l.loop-i.i u l.loop-i.invariant.1.1.0.1 (subst (λ (n : ℕ). n < 2 ^ 128) y.element.ensures (share_below y.before.before.before.before.before.before.before.before)),
+            words_next (2 ^ 64) d c.loop-i.i (element_inside d c.loop-i.i h) c.loop-i.invariant.1.1.0.0 (subst (λ (n : ℕ). n < 2 ^ 64) (as_they_were c.before.before.before.before.before.before.before.before.before.before.before).0 (words_below c.before.before.before.before.before.before.before.before.before.before.before).0) (subst (λ (n : ℕ). n < 2 ^ 64) (as_they_were c.before.before.before.before.before.before.before.before.before.before.before).1 (words_below c.before.before.before.before.before.before.before.before.before.before.before).1),
+            below_next (2 ^ 128) (elements_of z) c.loop-i.i u c.loop-i.invariant.1.1.0.1 (subst (λ (n : ℕ). n < 2 ^ 128) c.element.ensures (share_below c.before.before.before.before.before.before.before.before)),
           ),
-          counted_next p128 (elements_of z) l.loop-i.below l.loop-i.i _ _ u y.element.ensures r.join-sum.ensures.below_value l.loop-i.invariant.1.1.1,
+          counted_next p128 (elements_of z) c.loop-i.below c.loop-i.i _ _ u c.element.ensures c.join-sum.ensures.below_value c.loop-i.invariant.1.1.1,
         ),
       ),
     )
@@ -152,12 +123,11 @@ shape_of-agg c = c.loop-i.invariant.0.1
 
 pub returns : goal.returns
 returns c =
-    let l = c in
-    let d = l.args.agg.now in
-    let e : drop l.loop-i.i (elements_of d) ≡ [] = drop_of_length-le (elements_of d) {i = l.loop-i.i} (omega (arith, elements_length d)) in
+    let d = c.args.agg.now in
+    let e : drop c.loop-i.i (elements_of d) ≡ [] = drop_of_length-le (elements_of d) {i = c.loop-i.i} (omega (arith, elements_length d)) in
     record {
-      agg_after = l.loop-i.invariant.0.2;
-      done_value = omega (arith, rw e at l.loop-i.invariant.1.0);
-      below = l.loop-i.invariant.1.1.0;
-      below_le_done = l.loop-i.invariant.1.1.1;
+      agg_after = c.loop-i.invariant.0.2;
+      done_value = omega (arith, rw e at c.loop-i.invariant.1.0);
+      below = c.loop-i.invariant.1.1.0;
+      below_le_done = c.loop-i.invariant.1.1.1;
     }

@@ -20,40 +20,26 @@ loop-i-init c = ((omega arith, refl, refl), omega arith)
 
 pub element-requires : goal.element-requires
 element-requires c =
-    let l = c in
-    let s = l in
-    (pairing_room parted s.args.agg.now s.args.share.now l.loop-i.agg l.loop-i.i s.requires.0.0 s.requires.0.1 l.loop-i.invariant.0 (omega (arith, s.requires.1))).0
+    (pairing_room parted c.args.agg.now c.args.share.now c.loop-i.agg c.loop-i.i c.requires.0.0 c.requires.0.1 c.loop-i.invariant.0 (omega (arith, c.requires.1))).0
 
 pub element-requires-in-loop-i : goal.element-requires-in-loop-i
 element-requires-in-loop-i c =
-    let l = c in
-    let s = l in
-    (pairing_room parted s.args.agg.now s.args.share.now l.loop-i.agg l.loop-i.i s.requires.0.0 s.requires.0.1 l.loop-i.invariant.0 (omega (arith, s.requires.1))).1
+    (pairing_room parted c.args.agg.now c.args.share.now c.loop-i.agg c.loop-i.i c.requires.0.0 c.requires.0.1 c.loop-i.invariant.0 (omega (arith, c.requires.1))).1
 
 pub store-requires : goal.store-requires
 store-requires c =
-    let l = c in
-    let s = l in
-    (pairing_room parted s.args.agg.now s.args.share.now l.loop-i.agg l.loop-i.i s.requires.0.0 s.requires.0.1 l.loop-i.invariant.0 (omega (arith, s.requires.1))).0
+    (pairing_room parted c.args.agg.now c.args.share.now c.loop-i.agg c.loop-i.i c.requires.0.0 c.requires.0.1 c.loop-i.invariant.0 (omega (arith, c.requires.1))).0
 
 pub loop-i-preserved : goal.loop-i-preserved
 loop-i-preserved c =
-    let k = c in
-    let r = k in
-    let y = r in
-    let x = y in
-    let l = x in
-    let s = l in
-    let d = s.args.agg.now in
-    let e = s.args.share.now in
-    (subst (λ (a : List ℕ). Pairing parted d e a (l.loop-i.i + 1)) (sym k.store.ensures) (pairing_next parted d e l.loop-i.agg l.loop-i.i s.requires.0.0 s.requires.0.1 l.loop-i.invariant.0 _ _ r.part-e.result.low r.part-e.result.high (omega (arith, s.requires.1)) x.element.ensures y.element-in-loop-i.ensures (low_below r.before.before.before.before.before) r.part-e.ensures), omega arith)
+    let d = c.args.agg.now in
+    let e = c.args.share.now in
+    (subst (λ (a : List ℕ). Pairing parted d e a (c.loop-i.i + 1)) (sym c.store.ensures) (pairing_next parted d e c.loop-i.agg c.loop-i.i c.requires.0.0 c.requires.0.1 c.loop-i.invariant.0 _ _ c.part-e.result.low c.part-e.result.high (omega (arith, c.requires.1)) c.element.ensures c.element-in-loop-i.ensures (low_below c.before.before.before.before.before) c.part-e.ensures), omega arith)
 
 pub shape_of-agg : goal.shape_of-agg
 shape_of-agg c = c.loop-i.invariant.0.1
 
 pub returns : goal.returns
 returns c =
-    let l = c in
-    let s = l in
-    let e : l.loop-i.i ≡ s.args.n = omega arith in
-    subst (λ (i : ℕ). l.loop-i.agg ≡ take (2 * i) (words_of (by_element parted (elements_of s.args.agg.now) (elements_of s.args.share.now))) ++ drop (2 * i) s.args.agg.now) e l.loop-i.invariant.0.2
+    let e : c.loop-i.i ≡ c.args.n = omega arith in
+    subst (λ (i : ℕ). c.loop-i.agg ≡ take (2 * i) (words_of (by_element parted (elements_of c.args.agg.now) (elements_of c.args.share.now))) ++ drop (2 * i) c.args.agg.now) e c.loop-i.invariant.0.2

@@ -13,17 +13,14 @@ element-e-requires c = omega (arith, elements_length c.args.row.now)
 
 pub loop-i-preserved : goal.loop-i-preserved
 loop-i-preserved c =
-    let b = c in
-    let l = b in
-    let row = l.args.row.now in
+    let row = c.args.row.now in
     let e = c.or_carry-seen.ensures in
-    (omega arith, seen_next p128 (elements_of row) l.loop-i.i l.loop-i.seen _ _ (omega (arith, elements_length row)) b.element-e.ensures e.seen_bound e.upper_bound l.loop-i.invariant.1)
+    (omega arith, seen_next p128 (elements_of row) c.loop-i.i c.loop-i.seen _ _ (omega (arith, elements_length row)) c.element-e.ensures e.seen_bound e.upper_bound c.loop-i.invariant.1)
 
 pub returns : goal.returns
 returns c =
-    let l = c in
-    let row = l.args.row.now in
-    let both = seen_all p128 (elements_of row) l.loop-i.i l.loop-i.seen (omega (arith, elements_length row)) l.loop-i.invariant.1 in
+    let row = c.args.row.now in
+    let both = seen_all p128 (elements_of row) c.loop-i.i c.loop-i.seen (omega (arith, elements_length row)) c.loop-i.invariant.1 in
     record {
       below = both.0;
       upper_bound = both.1;

@@ -14,6 +14,4 @@ low_below c = search rules
 
 pub returns : goal.returns
 returns c =
-    let l = c in
-    let s = l in
-    upper_tells s.args.e.low s.args.e.high _ (low_below s.before.before) l.last_upper.ensures
+    upper_tells c.args.e.low c.args.e.high _ (low_below c.before.before) c.last_upper.ensures

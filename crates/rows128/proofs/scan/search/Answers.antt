@@ -14,21 +14,16 @@ element-e-requires c = omega (arith, elements_length c.args.row.now)
 
 pub loop-i-preserved : goal.loop-i-preserved
 loop-i-preserved c =
-    let b = c in
-    let l = b in
-    let row = l.args.row.now in
-    (omega arith, bad_next p128 (elements_of row) l.loop-i.i (omega (arith, elements_length row)) (rw (← b.element-e.ensures) (c.or_carry.ensures.seen_bound c.if-or_carry.true).1) l.loop-i.invariant.1)
+    let row = c.args.row.now in
+    (omega arith, bad_next p128 (elements_of row) c.loop-i.i (omega (arith, elements_length row)) (rw (← c.element-e.ensures) (c.or_carry.ensures.seen_bound c.if-or_carry.true).1) c.loop-i.invariant.1)
 
 pub returns-else-or_carry : goal.returns-else-or_carry
 returns-else-or_carry c =
-    let b = c in
-    let l = b in
-    let row = l.args.row.now in
-    bad_here p128 (elements_of row) l.loop-i.i (omega (arith, elements_length row)) (rw (← b.element-e.ensures) (seen_bad p128 _ _ (λ k. c.or_carry.ensures.upper_bound (omega arith, k)) c.if-or_carry.false)) l.loop-i.invariant.1
+    let row = c.args.row.now in
+    bad_here p128 (elements_of row) c.loop-i.i (omega (arith, elements_length row)) (rw (← c.element-e.ensures) (seen_bad p128 _ _ (λ k. c.or_carry.ensures.upper_bound (omega arith, k)) c.if-or_carry.false)) c.loop-i.invariant.1
 
 pub returns : goal.returns
 returns c =
-    let l = c in
-    let row = l.args.row.now in
-    let e : drop l.loop-i.i (elements_of row) ≡ [] = drop_of_length-le (elements_of row) {i = l.loop-i.i} (omega (arith, elements_length row)) in
-    omega (arith, rw e at l.loop-i.invariant.1)
+    let row = c.args.row.now in
+    let e : drop c.loop-i.i (elements_of row) ≡ [] = drop_of_length-le (elements_of row) {i = c.loop-i.i} (omega (arith, elements_length row)) in
+    omega (arith, rw e at c.loop-i.invariant.1)

@@ -10,14 +10,10 @@ loop-i-init c = (search rules, refl)
 
 pub loop-i-preserved : goal.loop-i-preserved
 loop-i-preserved c =
-    let l = c in
-    let s = l in
     let e = c.advance-at.ensures in
     let n = c.put_next-n in
-    ((n.ensures.1.0, e.1), absorbs_part s.args.bytes.now s.args.self (sponge l.loop-i.lanes l.loop-i.at) _ l.loop-i.i n.result l.loop-i.invariant.1 (e.0 ∙ n.ensures.1.1))
+    ((n.ensures.1.0, e.1), absorbs_part c.args.bytes.now c.args.self (sponge c.loop-i.lanes c.loop-i.at) _ c.loop-i.i n.result c.loop-i.invariant.1 (e.0 ∙ n.ensures.1.1))
 
 pub returns : goal.returns
 returns c =
-    let l = c in
-    let s = l in
-    (absorbs_none s.args.bytes.now s.args.self (sponge l.loop-i.lanes l.loop-i.at) l.loop-i.i c.loop-i-test.false l.loop-i.invariant.1, l.loop-i.invariant.0.1)
+    (absorbs_none c.args.bytes.now c.args.self (sponge c.loop-i.lanes c.loop-i.at) c.loop-i.i c.loop-i-test.false c.loop-i.invariant.1, c.loop-i.invariant.0.1)

@@ -11,14 +11,10 @@ loop-i-init c = (search rules, refl)
 
 pub loop-i-preserved : goal.loop-i-preserved
 loop-i-preserved c =
-    let l = c in
-    let s = l in
     let e = c.put_word-at.ensures in
     let more = c.loop-i-test.true in
-    ((omega (arith, more), e.1), words_next s.args.words.now s.args.self (sponge l.loop-i.lanes l.loop-i.at) _ l.loop-i.i more l.loop-i.invariant.1 e.0)
+    ((omega (arith, more), e.1), words_next c.args.words.now c.args.self (sponge c.loop-i.lanes c.loop-i.at) _ c.loop-i.i more c.loop-i.invariant.1 e.0)
 
 pub returns : goal.returns
 returns c =
-    let l = c in
-    let s = l in
-    (words_none s.args.words.now s.args.self (sponge l.loop-i.lanes l.loop-i.at) l.loop-i.i c.loop-i-test.false l.loop-i.invariant.1, l.loop-i.invariant.0.1)
+    (words_none c.args.words.now c.args.self (sponge c.loop-i.lanes c.loop-i.at) c.loop-i.i c.loop-i-test.false c.loop-i.invariant.1, c.loop-i.invariant.0.1)

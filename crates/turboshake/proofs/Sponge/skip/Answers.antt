@@ -17,7 +17,6 @@ loop-at-preserved c =
 
 pub returns : goal.returns
 returns c =
-    let s = c in
     let l = c.loop-at in
     let h : l.at < 168 = omega arith in
-    (sym (skip_end l.at l.lanes h) ∙ l.invariant ∙ sym (skip_start s.args.n s.args.self.at s.args.self.lanes s.requires.0), h)
+    (sym (skip_end l.at l.lanes h) ∙ l.invariant ∙ sym (skip_start c.args.n c.args.self.at c.args.self.lanes c.requires.0), h)

@@ -6,6 +6,5 @@ use Rattle.wr_tests.proofs.lengths.stream_len.Goals as goal
 
 pub overflow_mul-result : goal.overflow_mul-result
 overflow_mul-result c =
-    let s = c in
-    let i = s.args.param in
-    record { fits = omega (arith, few_bytes i.num_wr_tests ((i.dimension + 3) / 4) s.requires.0 (omega (arith, s.requires.1))) }
+    let i = c.args.param in
+    record { fits = omega (arith, few_bytes i.num_wr_tests ((i.dimension + 3) / 4) c.requires.0 (omega (arith, c.requires.1))) }

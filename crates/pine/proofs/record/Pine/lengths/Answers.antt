@@ -5,5 +5,4 @@ use Rattle.pine.proofs.record.Pine.lengths.Goals as goal
 pub returns : goal.returns
 unfolding lengths_main
 returns c =
-    let b = c in
-    simp (c.query_rand_len.ensures, c.prove_rand_len.ensures, c.joint_rand_len.ensures, b.verifier_len.ensures, b.proof_len.ensures, b.input_len.ensures)
+    simp (c.query_rand_len.ensures, c.prove_rand_len.ensures, c.joint_rand_len.ensures, c.verifier_len.ensures, c.proof_len.ensures, c.input_len.ensures)

@@ -94,9 +94,8 @@ chunk_count-requires-2 c =
 pub overflow_add-result-2 : goal.overflow_add-result-2
 overflow_add-result-2 c =
     let k = known c.before.before.before.before.before.before in
-    let b = c in
-    let i = param b.before.before.before.before.before.before in
-    omega (arith, c.chunk_count.ensures, c.chunk_count-2.ensures, ceil_le (2 * b.bits-sq_norm_bits.result + (1 + (b.wr_test_exponent-exponent.result + 1)) * i.num_wr_tests) i.chunk_len k.limits.chunk.0, ceil_le i.num_wr_tests i.chunk_len k.limits.chunk.0)
+    let i = param c.before.before.before.before.before.before in
+    omega (arith, c.chunk_count.ensures, c.chunk_count-2.ensures, ceil_le (2 * c.bits-sq_norm_bits.result + (1 + (c.wr_test_exponent-exponent.result + 1)) * i.num_wr_tests) i.chunk_len k.limits.chunk.0, ceil_le i.num_wr_tests i.chunk_len k.limits.chunk.0)
 
 pub chunk_count-requires-3 : goal.chunk_count-requires-3
 chunk_count-requires-3 c =
@@ -106,5 +105,4 @@ chunk_count-requires-3 c =
 pub returns : goal.returns
 unfolding pine_of input_len_of encoded_input_len_of bit_checked_len_of gadget_calls_of gadget_calls_norm sq_norm_bound_of
 returns c =
-    let b = c in
-    simp (c.chunk_count-3.ensures, c.chunk_count-2.ensures, c.chunk_count.ensures, c.scale_of.ensures, q_is b.before.before.before.before.before.before.before, e_is b.before.before.before.before.before.before.before, bits_recovered (param b.before.before.before.before.before.before.before))
+    simp (c.chunk_count-3.ensures, c.chunk_count-2.ensures, c.chunk_count.ensures, c.scale_of.ensures, q_is c.before.before.before.before.before.before.before, e_is c.before.before.before.before.before.before.before, bits_recovered (param c.before.before.before.before.before.before.before))

@@ -12,8 +12,7 @@ chunk_count-requires c = (omega arith, (omega arith, omega (arith, small c.args.
 
 pub overflow_mul-result : goal.overflow_mul-result
 overflow_mul-result c =
-    let s = c in
-    let k = small s.args.self s.requires in
+    let k = small c.args.self c.requires in
     let h : c.chunk_count.result ≤ 65536 = omega (arith, c.chunk_count.ensures, k.dimension) in
     record { fits = lt_of_le_of_lt (mul-le-mul k.tests h) (lit< tt) }
 
