@@ -89,11 +89,7 @@ fn is_rows(count: u64, contents: &[u8], bodies: &[u64]) -> bool
     if 1024 < count {
         return false;
     }
-    let rise = entries::keys_rise(contents, count as usize);
-    if rise {
-        return rows::scan::carries(bodies) < 1 << 63;
-    }
-    false
+    entries::keys_rise(contents, count as usize) && rows::scan::carries(bodies) < 1 << 63
 }
 
 // Rule 14, of a count and its rows.
@@ -101,13 +97,7 @@ fn check_rows(count: u64, contents: &[u8], bodies: &[u64]) -> Answer
     requires { length contents.now ≡ 12 * count }
     ensures { result ≡ rows_rule count contents.now bodies.now }
 {
-    if is_rows(count, contents, bodies) {
-        return Answer::accepted();
-    }
-    Answer {
-        number: rules::FILE_LAYOUT,
-        place: 0,
-    }
+    Answer::refuse_if(!is_rows(count, contents, bodies), rules::FILE_LAYOUT, 0)
 }
 
 // Rule 7, of the file that is to be written.

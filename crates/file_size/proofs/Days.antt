@@ -2,11 +2,10 @@
 use mathlib.Core.Path.{◌≡◌, refl, sym, ap, ap₂, ◌∙◌}
 use mathlib.Core.Bool.{Bool, true, false, cond}
 use mathlib.Core.List.{List, [], ◌∷◌, ◌++◌, map}
-use Prim.Native.Nat.{ℕ, zero, suc, ◌+◌, ◌-◌, ◌/◌}
+use Prim.Native.Nat.{ℕ, zero, suc, ◌+◌, ◌/◌}
 use lib.ListN.{length, get_or, take, drop, length-map}
 use lib.Dec.{ltb, eqb}
 use borrow.Author.Tests.{eqb-false}
-use Rattle.rules.specs.Rules.{answer}
 use Rattle.entries.specs.File.{Entry, key_in, key_of, keys_of, fresh, held, index, entry_for, placed, raised, added}
 use Rattle.entries.proofs.Walks.{held_one, placed_split}
 use Rattle.entries.proofs.Adding.{found_key, keys_placed, inserted}

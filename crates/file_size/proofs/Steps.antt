@@ -2,7 +2,7 @@
 use mathlib.Core.Path.{◌≡◌, refl, sym, ap, ◌∙◌}
 use mathlib.Core.Bool.{Bool, true, false, cond}
 use mathlib.Core.List.{List, [], ◌∷◌, ◌++◌}
-use Prim.Native.Nat.{ℕ, zero, suc, ◌+◌, ◌-◌, ◌*◌, ◌≤◌, ◌<◌}
+use Prim.Native.Nat.{ℕ, zero, suc, ◌+◌, ◌*◌, ◌≤◌, ◌<◌}
 use native.Mathlib.Nat.{add-zero}
 use native.Mathlib.Numerals.{add-one}
 use native.Mathlib.Omega.{arith}
@@ -11,7 +11,7 @@ use lib.Seq.{take-set-lt, set_split, split_at, get_or-take, drop-cons, drop-drop
 use lib.Dec.{leb, ltb, eqb}
 use borrow.Author.Tests.{lt-ltb, le-ltb, ltb-true, leb-false, eq-eqb, ne_eqb, eqb-true, eqb-false}
 use Rattle.rules.specs.declared.Answer.{Answer}
-use Rattle.rules.specs.Rules.{answer, accepted}
+use Rattle.rules.specs.Rules.{accepted}
 use Rattle.rules.proofs.Chain.{refuse_last, not_so}
 use Rattle.rows.proofs.Elements.{below_append, below_take, below_drop, below_at}
 use Rattle.entries.specs.File.{key_in, held, index}
@@ -133,11 +133,11 @@ at_is keys n i key l e h =
     let t : ltb i (length (take n keys)) ≡ true = lt-ltb i (length (take n keys)) (omega arith) in
     sym (held_at key (take n keys) ∙ rw (← e, t) (ap (λ (y : ℕ). eqb y key) (get_or-take n keys i 0 h)))
 
-pub at_none : (keys : List ℕ) (n i key : ℕ) → n ≤ length keys → i ≡ index key (take n keys) → n ≤ i → false ≡ held key (take n keys)
+pub at_none : (keys : List ℕ) (n i key : ℕ) → n ≤ length keys → i ≡ index key (take n keys) → n ≤ i → ltb i n ≡ held key (take n keys)
 at_none keys n i key l e h =
     let k : length (take n keys) ≡ n = length-take-le n keys l in
     let t : ltb i (length (take n keys)) ≡ false = le-ltb i (length (take n keys)) (omega arith) in
-    sym (held_at key (take n keys) ∙ rw (← e, t))
+    le-ltb i n h ∙ sym (held_at key (take n keys) ∙ rw (← e, t))
 
 pub held_inside : (key : ℕ) (ks : List ℕ) (i : ℕ) → i ≡ index key ks → held key ks ≡ true → i < length ks
 held_inside key ks i e t = ltb-true i (length ks) (and_both (ltb i (length ks)) (eqb (get_or ks i 0) key) (sym (rw e (held_at key ks)) ∙ t)).0
@@ -174,6 +174,3 @@ unfolding run_of
 run_end most N keys counts n i h H e =
     let l : length (take n keys) ≡ n = length-take-le n keys (omega (arith, H.few, H.keys_long)) in
     sym (e ∙ rw (drop_of_length-le N h, l))
-
-pub hold_none : (most : ℕ) (keys counts : List ℕ) → 0 < most → length keys ≡ 1024 → length counts ≡ 1024 → Holding most keys counts 0
-hold_none most keys counts h e f = record { some = h; few = omega arith; keys_long = e; counts_long = f; rise = refl; fit = tt }

@@ -26,17 +26,7 @@ fn find(keys: &[u64], n: usize, key: u64) -> usize
     requires { (n ≤ length keys.now) × (rising (take n keys.now) ≡ true) }
     ensures { result ≡ index key (take n keys.now) }
 {
-    let mut low = 0;
-    let mut high = n;
-    while low < high {
-        let middle = low + (high - low) / 2;
-        if keys[middle] < key {
-            low = middle + 1;
-        } else {
-            high = middle;
-        }
-    }
-    low
+    keys[..n].partition_point(|&other| other < key)
 }
 
 // Whether the key is among the n keys, i being the index of the first that is not below it.
@@ -44,10 +34,7 @@ fn is_at(keys: &[u64], n: usize, i: usize, key: u64) -> bool
     requires { (n ≤ length keys.now) × (i ≡ index key (take n keys.now)) }
     ensures { result ≡ held key (take n keys.now) }
 {
-    if i < n {
-        return keys[i] == key;
-    }
-    false
+    i < n && keys[i] == key
 }
 
 // Puts x in at i, and moves what follows up to n by one.
@@ -55,14 +42,8 @@ fn insert(row: &mut [u64], i: usize, n: usize, x: u64)
     requires { (i ≤ n) × (n < length row.old) }
     ensures { row.new ≡ moved i n x row.old }
 {
-    let mut carried = x;
-    let mut at = i;
-    while at <= n {
-        let next = row[at];
-        row[at] = carried;
-        carried = next;
-        at += 1;
-    }
+    row.copy_within(i..n, i + 1);
+    row[i] = x;
 }
 
 // Counts one report more of the key at i.
@@ -82,10 +63,7 @@ fn again(counts: &mut [u64], n: usize, i: usize, most: u32) -> Step
     }
     counts[i] = count + 1;
     Step {
-        answer: Answer {
-            number: 0,
-            place: 0,
-        },
+        answer: Answer::accepted(),
         held: n,
     }
 }
@@ -107,10 +85,7 @@ fn begin(keys: &mut [u64], counts: &mut [u64], n: usize, i: usize, key: u64) -> 
     insert(keys, i, n, key);
     insert(counts, i, n, 1);
     Step {
-        answer: Answer {
-            number: 0,
-            place: 0,
-        },
+        answer: Answer::accepted(),
         held: n + 1,
     }
 }
@@ -134,24 +109,20 @@ fn count_in(list: &[u8], keys: &mut [u64], counts: &mut [u64], most: u32) -> Ste
 {
     let total = list.len() / 8;
     let mut n = 0;
-    let mut i = 0;
-    while i < total {
-        let from = 8 * i;
-        let to = from + 8;
-        let key = entries::key_number(&list[from..to]);
+    for i in 0..total {
+        let at = 8 * i;
+        let key = entries::key_number(&list[at..at + 8]);
         let next = take_key(keys, counts, n, key, most);
-        let answer = next.answer;
-        if answer.number != 0 {
-            return Step { answer, held: 0 };
+        if next.answer.number != 0 {
+            return Step {
+                answer: next.answer,
+                held: 0,
+            };
         }
         n = next.held;
-        i += 1;
     }
     Step {
-        answer: Answer {
-            number: 0,
-            place: 0,
-        },
+        answer: Answer::accepted(),
         held: n,
     }
 }
@@ -189,14 +160,15 @@ pub fn size_up_to(param: PineParam, keys: &[u8], most: u32) -> FileLen
         };
     }
     let counted = count_keys(keys, most);
-    let answer = counted.answer;
-    let held = counted.held;
-    if answer.number != 0 {
-        return FileLen { answer, len: 0 };
+    if counted.answer.number != 0 {
+        return FileLen {
+            answer: counted.answer,
+            len: 0,
+        };
     }
     FileLen {
-        answer,
-        len: layout::file_len(param.dimension, held as u64),
+        answer: counted.answer,
+        len: layout::file_len(param.dimension, counted.held as u64),
     }
 }
 

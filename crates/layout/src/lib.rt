@@ -16,17 +16,8 @@ pub fn check_units(place: u64, len: u64, unit: u64, count: u64) -> Answer
     requires { 0 < unit }
     ensures { result ≡ row_rule place len (unit * count) }
 {
-    let whole = len / unit;
-    let over = len % unit;
-    if whole == count {
-        if over == 0 {
-            return Answer::accepted();
-        }
-    }
-    Answer {
-        number: rules::ROW_LEN,
-        place,
-    }
+    let whole = len / unit == count && len % unit == 0;
+    Answer::refuse_if(!whole, rules::ROW_LEN, place)
 }
 
 // The entry count in the first two bytes, 0 if there are fewer.
@@ -55,18 +46,12 @@ fn both_below(left: &[u8], right: &[u8], count: usize) -> bool
 {
     let mut in_left = 0;
     let mut in_right = 0;
-    let mut i = 0;
-    while i < count {
+    for i in 0..count {
         let at = 8 * i;
-        let end = at + 8;
-        in_left = rows::scan::or_carry(in_left, octets::number8(&left[at..end]));
-        in_right = rows::scan::or_carry(in_right, octets::number8(&right[at..end]));
-        i += 1;
+        in_left = rows::scan::or_carry(in_left, octets::number8(&left[at..at + 8]));
+        in_right = rows::scan::or_carry(in_right, octets::number8(&right[at..at + 8]));
     }
-    if in_left < 1 << 63 {
-        return in_right < 1 << 63;
-    }
-    false
+    in_left < 1 << 63 && in_right < 1 << 63
 }
 
 // The same of one row, by its halves. The middle element of an odd count is in both.
@@ -89,11 +74,7 @@ pub fn is_rows_in(count: usize, contents: &[u8], elements: usize, bodies: &[u8])
     if 1024 < count {
         return false;
     }
-    let rise = entries::keys_rise(contents, count);
-    if rise {
-        return elements_below(bodies, elements);
-    }
-    false
+    entries::keys_rise(contents, count) && elements_below(bodies, elements)
 }
 
 // Whether bytes are a file of this dimension.
@@ -127,13 +108,7 @@ pub fn check_file(dimension: u64, file: &[u8]) -> Answer
     requires { dimension ≤ 65536 }
     ensures { result ≡ file_rule dimension file.now }
 {
-    if is_file(dimension, file) {
-        return Answer::accepted();
-    }
-    Answer {
-        number: rules::FILE_LAYOUT,
-        place: 0,
-    }
+    Answer::refuse_if(!is_file(dimension, file), rules::FILE_LAYOUT, 0)
 }
 
 // Writes the count and the dimension into the first six bytes.

@@ -24,6 +24,7 @@ fn read_full<R: Read>(reader: &mut R, row: &mut [u8]) -> io::Result<usize>
     ensures { IfOk result (λ n. n ≤ length row.new) }
 {
     let mut have = 0;
+    // No count: a read gives as many bytes as it has.
     while have < row.len() {
         let got = reader.read(&mut row[have..])?;
         if got == 0 {

@@ -1,14 +1,12 @@
 -- The state and what is drawn from it. Assumes nothing.
 use mathlib.Core.Path.{◌≡◌, refl, sym, ap, ◌∙◌}
 use mathlib.Core.List.{List, ◌∷◌, map}
-use Prim.Native.Nat.{ℕ, zero, suc, ◌+◌, ◌-◌, ◌%◌, ◌^◌, ◌≤◌, ◌<◌}
+use Prim.Native.Nat.{ℕ, zero, suc, ◌+◌, ◌-◌, ◌%◌, ◌≤◌, ◌<◌}
 use native.Mathlib.Omega.{arith}
 use native.Mathlib.Numerals.{add-one}
-use native.Mathlib.Nat.{mod-lt}
 use lib.ListN.{length, get_or, take, drop, length-map, get_or-map}
-use lib.Dec.{T, le→leb, lit<}
 use lib.IntN.{pos}
-use lib.Ieee.{binary64, in_float, of_int, neg, div}
+use lib.Ieee.{binary64, of_int, neg, div}
 use borrow.Author.Tests.{le-leb, lt-leb}
 use Rattle.doubles.specs.Doubles.{power}
 use Rattle.doubles.proofs.Laws.{round_neg}
@@ -60,18 +58,6 @@ stream_drawn seed d n = ap (map stream_byte) (sym (later_states d n seed))
 -- ---- a coordinate
 
 module _ (x : ℕ) where
-  -- either part is a number that a double counts
-  pub counted_below : T (in_float binary64 (pos (32768 - x % 65536)))
-  unfolding in_float
-  counted_below = let h : 32768 - x % 65536 ≤ 2 ^ 53 = omega arith in le→leb _ _ h
-
-  pub counted_above : T (in_float binary64 (pos (x % 65536 - 32768)))
-  unfolding in_float
-  counted_above =
-      let l : x % 65536 < 65536 = mod-lt x (lit< tt) in
-      let h : x % 65536 - 32768 ≤ 2 ^ 53 = omega arith in
-      le→leb _ _ h
-
   pub coordinate_below : x % 65536 < 32768 → div binary64 (neg (of_int binary64 (pos (32768 - x % 65536)))) (power 16) ≡ coordinate x
   unfolding coordinate of_int
   coordinate_below h =

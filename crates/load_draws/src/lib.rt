@@ -30,11 +30,9 @@ fn fill_gradient(seed: u64, row: &mut [f64]) -> u64
     ensures { (row.new ≡ map coordinate (states (length row.old) seed)) × (result ≡ after (length row.old) seed) }
 {
     let mut x = seed;
-    let mut i = 0;
-    while i < row.len() {
+    for place in row.iter_mut() {
         x = step(x);
-        row[i] = coordinate(x);
-        i += 1;
+        *place = coordinate(x);
     }
     x
 }
@@ -44,11 +42,9 @@ fn fill_stream(state: u64, row: &mut [u8])
     ensures { row.new ≡ map stream_byte (states (length row.old) state) }
 {
     let mut s = state;
-    let mut i = 0;
-    while i < row.len() {
+    for byte in row.iter_mut() {
         s = step(s);
-        row[i] = (s % 256) as u8;
-        i += 1;
+        *byte = (s % 256) as u8;
     }
 }
 

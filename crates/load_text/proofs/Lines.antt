@@ -9,9 +9,9 @@ use native.Mathlib.Numerals.{add-one}
 use lib.ListN.{length, get_or, take, drop, set, length-set, drop_of_length-le}
 use lib.Seq.{drop-cons, take_all, take-suc-set}
 use lib.Dec.{eqb, leb}
-use borrow.Author.Tests.{eq-eqb, ne_eqb, le-leb, lt-leb, leb-true, leb-false}
+use borrow.Author.Tests.{eq-eqb, ne_eqb, lt-leb, leb-true, leb-false}
+use Rattle.std.specs.Prelude.{Some, None}
 use Rattle.load_text.specs.declared.Read.{Read}
-use Rattle.load_text.specs.declared.Read.TheVariants.{Other, Number}
 use Rattle.load_text.specs.Text.{Line, other, number, is_digit, ends_at, digits_from, first_line, up_to, before, and_then, numbers_of}
 use Rattle.load_text.specs.Steps.{line_in, numbers_if}
 
@@ -54,9 +54,6 @@ module _ (text : List ℕ) (at most : ℕ) where
     gone : drop at text ≡ []
     gone = drop_of_length-le text h
 
-    pub end_nothing : (n : ℕ) → other ≡ up_to most (ends_at n (drop at text))
-    end_nothing n = rw gone
-
     pub digits_nothing : (n : ℕ) → other ≡ up_to most (digits_from n (drop at text))
     unfolding digits_from
     digits_nothing n = rw gone
@@ -69,12 +66,6 @@ module _ (text : List ℕ) (at most : ℕ) where
   module _ (h : at < length text) where
     here : drop at text ≡ byte ∷ drop (at + 1) text
     here = rw add-one (drop-cons text at 0 h)
-
-    pub end_other : (n : ℕ) → (byte ≡ 10 → ⊥) → other ≡ up_to most (ends_at n (drop at text))
-    end_other n z = rw (here, ne_eqb byte 10 z)
-
-    pub end_number : (n : ℕ) → n ≤ most → byte ≡ 10 → number n (drop (at + 1) text) ≡ up_to most (ends_at n (drop at text))
-    end_number n l e = rw (here, eq-eqb byte 10 e, le-leb n most l)
 
     pub digits_end : (n : ℕ) → is_digit byte ≡ false → up_to most (ends_at n (drop at text)) ≡ up_to most (digits_from n (drop at text))
     unfolding digits_from
@@ -121,21 +112,23 @@ Reading limits text row at k = (k ≤ length limits) × (length row ≡ length l
 
 module _ (limits text row : List ℕ) (at k : ℕ) (r : Reading limits text row at k) where
   -- the next line
-  module _ (h : k < length limits) (l : Read) (e : line_in text l ≡ up_to (get_or limits k 0) (first_line (drop at text))) where
+  module _ (h : k < length limits) (l : Rattle.std.specs.Prelude.Option Read) (e : line_in text l ≡ up_to (get_or limits k 0) (first_line (drop at text))) where
     next : numbers_of (drop k limits) (drop at text) ≡ and_then (line_in text l) (numbers_of (drop (k + 1) limits))
     unfolding numbers_of
     next = rw (add-one, drop-cons limits k 0 h, ← e)
 
-    pub reading_other : l ≡ Other → none ≡ numbers_of limits text
-    reading_other o = sym (r.2 ∙ ap (ahead (take k row)) (next ∙ ap (λ (x : Read). and_then (line_in text x) (numbers_of (drop (k + 1) limits))) o) ∙ ahead_none (take k row))
+    pub reading_other : l ≡ None → none ≡ numbers_of limits text
+    reading_other o = sym (r.2 ∙ ap (ahead (take k row)) (next ∙ ap (λ (x : Rattle.std.specs.Prelude.Option Read). and_then (line_in text x) (numbers_of (drop (k + 1) limits))) o) ∙ ahead_none (take k row))
 
-    pub reading_next : (n i : ℕ) → l ≡ Number n i → Reading limits text (set row k n) i (k + 1)
-    reading_next n i o =
+    pub reading_next : (read : Read) → l ≡ Some read → Reading limits text (set row k read.value) read.next (k + 1)
+    reading_next read o =
+        let n = read.value in
+        let i = read.next in
         let kept : take (k + 1) (set row k n) ≡ take k row ++ (n ∷ []) = rw add-one (take-suc-set row k n (omega arith)) in (
           omega arith,
           length-set row k n ∙ r.1,
           r.2
-              ∙ ap (ahead (take k row)) (next ∙ ap (λ (x : Read). and_then (line_in text x) (numbers_of (drop (k + 1) limits))) o)
+              ∙ ap (ahead (take k row)) (next ∙ ap (λ (x : Rattle.std.specs.Prelude.Option Read). and_then (line_in text x) (numbers_of (drop (k + 1) limits))) o)
               ∙ sym (ahead_snoc (take k row) n (numbers_of (drop (k + 1) limits) (drop i text)))
               ∙ ap (λ (ns : List ℕ). ahead ns (numbers_of (drop (k + 1) limits) (drop i text))) (sym kept),
         )

@@ -2,7 +2,7 @@
 #![tactic(auto)]
 
 ghost use Rattle.std.specs.Prelude.{◌≡◌, ◌≤◌, length, drop};
-ghost use Rattle.load_text.specs.Text.{is_digit, ends_at, digits_from, first_line, up_to, load_limits, numbers_of};
+ghost use Rattle.load_text.specs.Text.{ends_at, digits_from, first_line, up_to, load_limits, numbers_of};
 ghost use Rattle.load_text.specs.Steps.{line_in, Appends, numbers_if};
 
 // The greatest number of each line.
@@ -21,90 +21,66 @@ const LIMITS: [u64; 12] = [
     1,
 ];
 
-// A number, with the index after its newline; or something else.
+// A number that was read, with the index after its newline.
 #[derive(Clone, Copy)]
-pub enum Read {
-    Other,
-    Number { value: u64, next: usize },
-}
-
-// A number with a digit more.
-#[derive(Clone, Copy)]
-pub enum Appended {
-    TooWide,
-    To(u64),
-}
-
-fn is_digit(b: u8) -> bool
-    ensures { result ≡ is_digit b }
-{
-    b'0' <= b && b <= b'9'
+pub struct Read {
+    pub value: u64,
+    pub next: usize,
 }
 
 // The newline at an index, after the digits of n.
-fn end(text: &[u8], at: usize, n: u64, most: u64) -> Read
+fn end(text: &[u8], at: usize, n: u64, most: u64) -> Option<Read>
     requires { n ≤ most }
     ensures { line_in text.now result ≡ up_to most (ends_at n (drop at text.now)) }
 {
-    if text.len() <= at {
-        return Read::Other;
+    if *text.get(at)? != b'\n' {
+        return None;
     }
-    if text[at] != b'\n' {
-        return Read::Other;
-    }
-    Read::Number {
+    Some(Read {
         value: n,
         next: at + 1,
-    }
+    })
 }
 
-fn append(n: u64, d: u64, most: u64) -> Appended
+// A number with a digit more; none where it is above most.
+fn append(n: u64, d: u64, most: u64) -> Option<u64>
     ensures { Appends n d most result }
 {
     if most / 10 < n {
-        return Appended::TooWide;
+        return None;
     }
     let tens = n * 10;
     if most - tens < d {
-        return Appended::TooWide;
+        return None;
     }
-    Appended::To(tens + d)
+    Some(tens + d)
 }
 
 // Any further digits from an index on, after those of first, and the newline.
-fn digits_from(text: &[u8], at: usize, first: u64, most: u64) -> Read
+fn digits_from(text: &[u8], at: usize, first: u64, most: u64) -> Option<Read>
     ensures { line_in text.now result ≡ up_to most (digits_from first (drop at text.now)) }
 {
     if most < first {
-        return Read::Other;
+        return None;
     }
     let mut n = first;
-    let mut i = at;
-    while i < text.len() {
+    for i in at..text.len() {
         let b = text[i];
-        if !is_digit(b) {
+        if !b.is_ascii_digit() {
             return end(text, i, n, most);
         }
-        let appended = append(n, (b - b'0') as u64, most);
-        let Appended::To(m) = appended else {
-            return Read::Other;
-        };
-        n = m;
-        i += 1;
+        n = append(n, (b - b'0') as u64, most)?;
     }
-    Read::Other
+    None
 }
 
 // The number of the line that begins at an index.
-fn first_line(text: &[u8], at: usize, most: u64) -> Read
+fn first_line(text: &[u8], at: usize, most: u64) -> Option<Read>
     ensures { line_in text.now result ≡ up_to most (first_line (drop at text.now)) }
 {
-    if text.len() <= at {
-        return Read::Other;
-    }
-    let b = text[at];
-    if !is_digit(b) {
-        return Read::Other;
+    let b = *text.get(at)?;
+    if !b.is_ascii_digit() {
+        return None;
     }
     if b == b'0' {
         return end(text, at + 1, 0, most);
@@ -119,15 +95,12 @@ pub fn read_numbers(text: &[u8], row: &mut [u64]) -> bool
 {
     let limits = LIMITS;
     let mut at = 0;
-    let mut k = 0;
-    while k < 12 {
-        let line = first_line(text, at, limits[k]);
-        let Read::Number { value, next } = line else {
+    for k in 0..12 {
+        let Some(line) = first_line(text, at, limits[k]) else {
             return false;
         };
-        row[k] = value;
-        at = next;
-        k += 1;
+        row[k] = line.value;
+        at = line.next;
     }
     text.len() <= at
 }

@@ -38,11 +38,9 @@ fn show_first<W: Write>(writer: &mut W, keys: &[u8], n: usize) -> io::Result<()>
 
 // Keys that rise, in a row of zeros.
 fn fill(keys: &mut [u8]) {
-    let mut at = 0;
-    while 8 <= keys.len() - at {
-        keys[at] = (at / 2048 % 256) as u8;
-        keys[at + 1] = (at / 8 % 256) as u8;
-        at += 8;
+    for i in 0..keys.len() / 8 {
+        keys[8 * i] = (i / 256 % 256) as u8;
+        keys[8 * i + 1] = (i % 256) as u8;
     }
 }
 

@@ -1,10 +1,6 @@
 -- `day_file::check_write` meets its contract. Assumes nothing.
-use mathlib.Core.Path.{refl, sym, ap, ◌∙◌}
-use Prim.Native.Nat.{◌*◌}
-use lib.ListN.{length}
-use Rattle.rows.proofs.Lengths.{row_right}
-use Rattle.rules.proofs.Chain.{both}
-use Rattle.day_file.proofs.Verdicts.{number, dimension_limits, write_inputs, write_lens, write_rows}
+use mathlib.Core.Path.{refl}
+use Rattle.day_file.proofs.Verdicts.{dimension_limits, write_inputs, write_lens, write_rows}
 use Rattle.day_file.proofs.check_write.Goals as goal
 
 pub returns-then-inputs-ne0 : goal.returns-then-inputs-ne0
@@ -17,10 +13,6 @@ check_write_lens-lens-requires c = dimension_limits c.args.param _ c.check_param
 pub returns-then-lens-ne0 : goal.returns-then-lens-ne0
 returns-then-lens-ne0 c =
     write_lens c.args.param c.args.count c.args.contents.now c.args.bodies.now c.args.file _ c.check_param-inputs.ensures c.if-inputs-ne0.false _ _ _ _ refl refl refl c.check_write_lens-lens.ensures c.if-lens-ne0.true
-
-pub check_rows-requires : goal.check_rows-requires
-check_rows-requires c =
-    row_right 1 (length c.args.contents.now) (12 * c.args.count) (both _ _ (ap number (sym c.check_write_lens-lens.ensures) ∙ c.if-lens-ne0.false)).0
 
 pub returns : goal.returns
 returns c =

@@ -7,11 +7,11 @@ pub returns-then-count-gt1024 : goal.returns-then-count-gt1024
 returns-then-count-gt1024 c =
     rows_many p64 c.args.count c.args.contents.now c.args.bodies.now c.if-count-gt1024.true
 
-pub returns-then-rise : goal.returns-then-rise
-returns-then-rise c =
+pub returns-then-keys_rise : goal.returns-then-keys_rise
+returns-then-keys_rise c =
     let e = c.carries.ensures in
-    rows_rise p64 c.args.count c.args.contents.now c.args.bodies.now c.if-count-gt1024.false _ c.keys_rise-rise.ensures c.if-rise.true _ (none_carries _ c.args.bodies.now e.below e.upper_bound)
+    rows_rise p64 c.args.count c.args.contents.now c.args.bodies.now c.if-count-gt1024.false _ c.keys_rise.ensures c.if-keys_rise.true _ (none_carries _ c.args.bodies.now e.below e.upper_bound)
 
-pub returns : goal.returns
-returns c =
-    rows_fall p64 c.args.count c.args.contents.now c.args.bodies.now c.if-count-gt1024.false _ c.keys_rise-rise.ensures c.if-rise.false
+pub returns-else-keys_rise : goal.returns-else-keys_rise
+returns-else-keys_rise c =
+    rows_fall p64 c.args.count c.args.contents.now c.args.bodies.now c.if-count-gt1024.false _ c.keys_rise.ensures c.if-keys_rise.false

@@ -11,9 +11,6 @@ pub loop-low-init : goal.loop-low-init
 loop-low-init c =
     (omega arith, between_start c.args.key (keys_in c.args.count c.args.contents.now) c.args.count (length-keys_in c.args.count c.args.contents.now))
 
-pub key_at-requires : goal.key_at-requires
-key_at-requires c = omega arith
-
 pub loop-low-preserved-then-key_at-key : goal.loop-low-preserved-then-key_at-key
 loop-low-preserved-then-key_at-key c =
     let n = c.args.count in

@@ -14,22 +14,22 @@ pub loop-i-init : goal.loop-i-init
 loop-i-init c =
     let n = c.args.count in
     let k = c.args.contents.now in
-    (omega arith, rise_start (keys_in n k) _ (omega (arith, length-keys_in n k)) (c.key_at-last.ensures ∙ sym (keys_in_at n k 0 (omega arith))))
+    rise_start (keys_in n k) _ (omega (arith, length-keys_in n k)) (c.key_at-last.ensures ∙ sym (keys_in_at n k 0 (omega arith)))
 
 pub returns-then-key-last : goal.returns-then-key-last
 returns-then-key-last c =
     let n = c.args.count in
     let k = c.args.contents.now in
-    rise_stops (keys_in n k) c.loop-i.i c.loop-i.last _ (omega (arith, length-keys_in n k)) (c.key_at-key.ensures ∙ sym (keys_in_at n k c.loop-i.i (omega arith))) c.if-key-last.true c.loop-i.invariant.1
+    rise_stops (keys_in n k) c.loop-i.i c.loop-i.last _ (omega (arith, length-keys_in n k)) (c.key_at-key.ensures ∙ sym (keys_in_at n k c.loop-i.i (omega arith))) c.if-key-last.true c.loop-i.invariant
 
 pub loop-i-preserved : goal.loop-i-preserved
 loop-i-preserved c =
     let n = c.args.count in
     let k = c.args.contents.now in
-    (omega arith, rise_next (keys_in n k) c.loop-i.i c.loop-i.last _ (omega (arith, length-keys_in n k)) (c.key_at-key.ensures ∙ sym (keys_in_at n k c.loop-i.i (omega arith))) c.if-key-last.false c.loop-i.invariant.1)
+    rise_next (keys_in n k) c.loop-i.i c.loop-i.last _ (omega (arith, length-keys_in n k)) (c.key_at-key.ensures ∙ sym (keys_in_at n k c.loop-i.i (omega arith))) c.if-key-last.false c.loop-i.invariant
 
 pub returns : goal.returns
 returns c =
     let n = c.args.count in
     let k = c.args.contents.now in
-    rise_end (keys_in n k) c.loop-i.i c.loop-i.last (omega (arith, length-keys_in n k)) c.loop-i.invariant.1
+    rise_end (keys_in n k) c.loop-i.i c.loop-i.last (omega (arith, length-keys_in n k)) c.loop-i.invariant

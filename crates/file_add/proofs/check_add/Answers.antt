@@ -1,7 +1,7 @@
 -- `file_add::check_add` meets its contract. Assumes nothing.
 use native.Mathlib.Omega.{arith}
 use Rattle.rows.proofs.Elements.{below_all}
-use Rattle.file_add.proofs.Verdicts.{add_inputs, add_lens, add_file, file_is, add_report}
+use Rattle.file_add.proofs.Verdicts.{add_inputs, add_lens, add_file, add_report}
 use Rattle.day_file.proofs.Verdicts.{dimension_limits}
 use Rattle.file_add.proofs.check_add.Goals as goal
 
@@ -22,10 +22,6 @@ check_file-file-requires c = (dimension_limits c.args.param _ c.check_param-inpu
 pub returns-then-file-ne0 : goal.returns-then-file-ne0
 returns-then-file-ne0 c =
     add_file c.args.param c.args.key.now c.args.old.now c.args.share.now c.args.second _ c.check_param-inputs.ensures c.if-inputs-ne0.false _ c.check_lens-lens.ensures c.if-lens-ne0.false _ c.check_file-file.ensures c.if-file-ne0.true
-
-pub check_report-requires : goal.check_report-requires
-check_report-requires c =
-    (file_is c.args.param c.args.key.now c.args.old.now c.args.share.now c.args.second _ c.check_param-inputs.ensures c.if-inputs-ne0.false _ c.check_lens-lens.ensures c.if-lens-ne0.false _ c.check_file-file.ensures c.if-file-ne0.false, omega (arith, c.requires))
 
 pub returns : goal.returns
 returns c =

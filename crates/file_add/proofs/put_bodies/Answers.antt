@@ -10,13 +10,6 @@ use Rattle.file_add.specs.Steps.{body_with}
 use Rattle.file_add.proofs.Written.{three_pasted, front_is, body_long}
 use Rattle.file_add.proofs.put_bodies.Goals as goal
 
-pub put_body-rest_at-requires : goal.put_body-rest_at-requires
-put_body-rest_at-requires c =
-    record {
-      share_in_bounds = (omega arith, c.requires.to_in_bounds.1);
-      len = c.requires.bodies_len;
-    }
-
 pub returns : goal.returns
 returns c =
     let t = c.args.bodies.now in

@@ -46,9 +46,6 @@ module _ (a : After-after-next) where
   abbrev R : List ℕ
   R = take (length s.args.old.now - (6 + 12 * n)) (drop (6 + 12 * n) s.args.old.now)
 
-  known_few : n ≤ 1024
-  known_few = few d s.args.key.now s.args.old.now s.args.share.now (length s.args.second.now) s.requires n a.count_of-count.ensures.0 _ a.place_in-place.ensures.0
-
   known_long : length s.args.old.now ≡ 6 + n * (12 + 8 * d)
   known_long = old_long d s.args.key.now s.args.old.now s.args.share.now (length s.args.second.now) s.requires n a.count_of-count.ensures.0 _ a.place_in-place.ensures.0
 
@@ -88,9 +85,6 @@ module _ (a : After-after-next) where
 pub after-next-requires : goal.after-next-requires
 after-next-requires c =
     omega (arith, few c.args.dimension c.args.key.now c.args.old.now c.args.share.now (length c.args.second.now) c.requires c.count_of-count.result c.count_of-count.ensures.0 _ c.place_in-place.ensures.0, index_small c.args.dimension c.args.key.now c.args.old.now c.args.share.now (length c.args.second.now) c.requires c.count_of-count.result c.count_of-count.ensures.0 _ c.place_in-place.ensures.0)
-
-pub overflow_sub-count : goal.overflow_sub-count
-overflow_sub-count c = omega (arith, known_order c.before.before)
 
 pub slice_bounds-put_contents-end : goal.slice_bounds-put_contents-end
 slice_bounds-put_contents-end c = omega (arith, known_start c.before.before.before.before.before.before)

@@ -6,6 +6,6 @@ pub returns-then-i-n : goal.returns-then-i-n
 returns-then-i-n c =
     at_is c.args.keys.now c.args.n c.args.i c.args.key c.requires.0 c.requires.1 c.if-i-n.true
 
-pub returns : goal.returns
-returns c =
+pub returns-else-i-n : goal.returns-else-i-n
+returns-else-i-n c =
     at_none c.args.keys.now c.args.n c.args.i c.args.key c.requires.0 c.requires.1 c.if-i-n.false

@@ -7,9 +7,9 @@ pub returns-then-inputs-ne0 : goal.returns-then-inputs-ne0
 returns-then-inputs-ne0 c =
     size_refused c.args.most c.args.param c.args.keys.now _ c.check_list-inputs.ensures c.if-inputs-ne0.true
 
-pub returns-then-answer-ne0 : goal.returns-then-answer-ne0
-returns-then-answer-ne0 c =
-    size_stops c.args.most c.args.param c.args.keys.now _ c.check_list-inputs.ensures c.if-inputs-ne0.false _ _ c.count_keys-counted.ensures.0 c.if-answer-ne0.true
+pub returns-then-counted-ne0 : goal.returns-then-counted-ne0
+returns-then-counted-ne0 c =
+    size_stops c.args.most c.args.param c.args.keys.now _ c.check_list-inputs.ensures c.if-inputs-ne0.false _ _ c.count_keys-counted.ensures.0 c.if-counted-ne0.true
 
 pub file_len-requires : goal.file_len-requires
 file_len-requires c =
@@ -17,4 +17,4 @@ file_len-requires c =
 
 pub returns : goal.returns
 returns c =
-    size_done c.args.most c.args.param c.args.keys.now _ c.check_list-inputs.ensures c.if-inputs-ne0.false _ _ c.count_keys-counted.ensures.0 c.if-answer-ne0.false _ c.file_len.ensures
+    size_done c.args.most c.args.param c.args.keys.now _ c.check_list-inputs.ensures c.if-inputs-ne0.false _ _ c.count_keys-counted.ensures.0 c.if-counted-ne0.false _ c.file_len.ensures

@@ -1,12 +1,8 @@
 -- `layout::both_below` meets its contract. Assumes nothing.
-use Prim.Native.Nat.{◌-◌, ◌≤◌}
 use Rattle.field64.specs.Field.{p64}
 use Rattle.rows.proofs.Blocks.{Seen}
 use Rattle.octets.specs.Octets.{elements_in}
 use Rattle.layout.proofs.both_below.Given as goal
 
 abbrev pub invariant-loop-i : goal.invariant-loop-i
-invariant-loop-i l = (l.i ≤ l.count) × Seen p64 (elements_in l.count l.left) l.i l.in_left × Seen p64 (elements_in l.count l.right) l.i l.in_right
-
-abbrev pub decreases-loop-i : goal.decreases-loop-i
-decreases-loop-i l = l.count - l.i
+invariant-loop-i l = Seen p64 (elements_in l.count l.left) l.i l.in_left × Seen p64 (elements_in l.count l.right) l.i l.in_right

@@ -2,7 +2,7 @@
 use mathlib.Core.Path.{sym, ◌∙◌}
 use native.Mathlib.Omega.{arith}
 use Rattle.field64.specs.Field.{p64}
-use Rattle.layout.proofs.Tests.{dimension_four, product_fits, file_short, file_other, file_size, file_rows, rows_in_parts}
+use Rattle.layout.proofs.Tests.{dimension_four, file_short, file_other, file_size, file_rows, rows_in_parts}
 use Rattle.layout.proofs.is_file.Goals as goal
 
 pub returns-then-file-lt6 : goal.returns-then-file-lt6
@@ -12,15 +12,9 @@ pub returns-then-written-dimension : goal.returns-then-written-dimension
 returns-then-written-dimension c =
     file_other p64 c.args.dimension c.args.file.now (omega arith) _ (dimension_four c.args.file.now _ (omega arith) c.number4-written.ensures.0) c.if-written-dimension.true
 
-pub file_len-expected-requires : goal.file_len-expected-requires
-file_len-expected-requires c = (c.requires, c.count_of-count.ensures.1)
-
 pub returns-then-file-expected : goal.returns-then-file-expected
 returns-then-file-expected c =
     file_size p64 c.args.dimension c.args.file.now (omega arith) (sym (dimension_four c.args.file.now _ (omega arith) c.number4-written.ensures.0) ∙ c.if-written-dimension.false) _ c.count_of-count.ensures.0 (λ e. c.if-file-expected.true (e ∙ sym c.file_len-expected.ensures))
-
-pub overflow_mul-dimension : goal.overflow_mul-dimension
-overflow_mul-dimension c = omega (arith, product_fits c.count_of-count.result c.args.dimension c.count_of-count.ensures.1 c.requires)
 
 pub returns : goal.returns
 returns c =

@@ -1,13 +1,7 @@
 -- `load_draws::coordinate` meets its contract. Assumes nothing.
 use lib.Ieee.{of_bits}
-use Rattle.load_draws.proofs.Drawn.{counted_below, counted_above, coordinate_below, coordinate_above}
+use Rattle.load_draws.proofs.Drawn.{coordinate_below, coordinate_above}
 use Rattle.load_draws.proofs.coordinate.Goals as goal
-
-pub int_to_float-result : goal.int_to_float-result
-int_to_float-result c = counted_below c.args.x
-
-pub int_to_float-result-else-low-lt32768 : goal.int_to_float-result-else-low-lt32768
-int_to_float-result-else-low-lt32768 c = counted_above c.args.x
 
 pub returns-then-low-lt32768 : goal.returns-then-low-lt32768
 unfolding of_bits

@@ -1,39 +1,31 @@
 -- `load_text::first_line` meets its contract. Assumes nothing.
-use mathlib.Core.Path.{◌≡◌, sym, ◌∙◌}
-use mathlib.Core.Bool.{true}
-use native.Mathlib.Omega.{arith}
-use lib.ListN.{get_or}
-use Rattle.load_text.specs.Text.{is_digit}
-use Rattle.load_text.proofs.Lines.{digit_above, line_nothing, line_other, line_zero, line_digits}
-use Rattle.load_text.proofs.first_line.Lts as lts
-use Rattle.load_text.proofs.first_line.Reads as reads
-use Rattle.load_text.proofs.first_line.Tie as tie
+use mathlib.Core.Path.{◌≡◌, sym, ap, ◌∙◌}
+use mathlib.Core.Bool.{Bool}
+use Prim.Native.Nat.{ℕ, ◌+◌, ◌-◌}
+use lib.ListN.{drop}
+use Rattle.load_text.specs.Text.{is_digit, digits_from, up_to}
+use Rattle.load_text.proofs.Lines.{line_nothing, line_other, line_zero, line_digits}
 use Rattle.load_text.proofs.first_line.Goals as goal
 
-abbrev Else-not-is_digit : Type 0
-Else-not-is_digit = lts.Else2 tie.the-claims reads.Pre reads.Post
+pub returns-in_err-b : goal.returns-in_err-b
+returns-in_err-b c = rw c.from_residual.ensures (line_nothing c.args.text.now _ _ c.in_err-b.ensures.lookup.3)
 
--- the byte at the index is a digit
-digit : (c : Else-not-is_digit) → is_digit (get_or c.args.text.now c.args.at 0) ≡ true
-digit c = sym c.is_digit.ensures ∙ c.if-not-is_digit.false
+tested : (b byte : ℕ) (t u : Bool) → b ≡ byte → t ≡ is_digit b → t ≡ u → is_digit byte ≡ u
+tested b byte t u e f g = ap is_digit (sym e) ∙ sym f ∙ g
 
-pub returns-then-text-at : goal.returns-then-text-at
-returns-then-text-at c = line_nothing c.args.text.now _ _ c.if-text-at.true
-
-pub returns-then-not-is_digit : goal.returns-then-not-is_digit
-returns-then-not-is_digit c =
-    line_other c.args.text.now c.args.at c.args.most c.if-text-at.false (sym c.is_digit.ensures ∙ c.if-not-is_digit.true)
+pub returns-then-not-is_ascii_digit : goal.returns-then-not-is_ascii_digit
+returns-then-not-is_ascii_digit c =
+    let there = c.in_ok-b.ensures.lookup.3 in
+    line_other c.args.text.now c.args.at c.args.most there.0 (tested _ _ _ _ (there.1 0) c.is_ascii_digit.ensures.value c.if-not-is_ascii_digit.true)
 
 pub returns-then-b-eq48 : goal.returns-then-b-eq48
 returns-then-b-eq48 c =
-    c.end.ensures ∙ line_zero c.args.text.now c.args.at c.args.most c.if-text-at.false (digit c.before.before.before) c.if-b-eq48.true
-
-pub overflow_sub-b : goal.overflow_sub-b
-overflow_sub-b c = digit_above _ (digit c.before.before)
-
-pub overflow_cast-b : goal.overflow_cast-b
-overflow_cast-b c = omega (arith, c.shared_slice_known-2-1.given c.args.at)
+    let there = c.in_ok-b.ensures.lookup.3 in
+    c.end.ensures ∙ line_zero c.args.text.now c.args.at c.args.most there.0 (tested _ _ _ _ (there.1 0) c.is_ascii_digit.ensures.value c.if-not-is_ascii_digit.false) (sym (there.1 0) ∙ c.if-b-eq48.true)
 
 pub returns : goal.returns
 returns c =
-    c.digits_from.ensures ∙ line_digits c.args.text.now c.args.at c.args.most c.if-text-at.false (digit c.before.before.before) c.if-b-eq48.false
+    let there = c.in_ok-b.ensures.lookup.3 in
+    c.digits_from.ensures
+    ∙ ap (λ (b : ℕ). up_to c.args.most (digits_from (b - 48) (drop (c.args.at + 1) c.args.text.now))) (there.1 0)
+    ∙ line_digits c.args.text.now c.args.at c.args.most there.0 (tested _ _ _ _ (there.1 0) c.is_ascii_digit.ensures.value c.if-not-is_ascii_digit.false) (λ e. c.if-b-eq48.false (there.1 0 ∙ e))

