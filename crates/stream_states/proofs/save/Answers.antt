@@ -1,22 +1,19 @@
 -- `stream_states::save` meets its contract. Assumes nothing.
-use mathlib.Core.Path.{refl, ◌∙◌}
-use Prim.Native.Nat.{◌<◌}
+use mathlib.Core.Path.{◌≡◌, sym, ◌∙◌}
 use native.Mathlib.Omega.{arith}
 use borrow.Author.Rules.{rules}
-use lib.ListN.{length-set}
-use Rattle.stream_states.proofs.States.{copied_next, saved}
+use lib.ListN.{length}
+use lib.Seq.{length-take-le}
+use Rattle.stream_states.proofs.States.{saved}
 use Rattle.stream_states.proofs.save.Goals as goal
 
-pub loop-i-init : goal.loop-i-init
-loop-i-init c = (omega arith, refl, c.requires, search rules, refl)
+pub slice_bounds-copy_from_slice-end-2 : goal.slice_bounds-copy_from_slice-end-2
+slice_bounds-copy_from_slice-end-2 c = sym (length-take-le 25 c.args.words.now (omega arith))
 
-pub loop-i-preserved : goal.loop-i-preserved
-loop-i-preserved c =
-    let l = c.loop-i in
-    let h : l.i < 25 = c.loop-i-test.true in
-    (omega (arith, h), length-set l.words l.i _ ∙ l.invariant.1, l.invariant.2, l.invariant.3, copied_next l.i l.words _ (omega (arith, h, l.invariant.1, l.invariant.2)) (omega (arith, h, l.invariant.3)) l.invariant.4)
+pub copy_from_slice-requires : goal.copy_from_slice-requires
+copy_from_slice-requires c =
+    let lanes : length c.args.state.lanes ≡ 25 = search rules in
+    length-take-le 25 c.args.words.now (omega arith) ∙ sym lanes
 
 pub returns : goal.returns
-returns c =
-    let l = c.loop-i in
-    saved l.i c.args.state l.words (omega (arith, c.loop-i-test.false, l.invariant.0)) l.invariant.3 (l.invariant.1 ∙ l.invariant.2) l.invariant.4
+returns c = saved c.args.state c.args.words.now c.copy_from_slice.new.self (search rules) c.requires c.copy_from_slice.ensures.after
