@@ -6,21 +6,19 @@ use native.Mathlib.Nat.{zero-mul, suc-mul, mul-le-mul, mul-le-mul_right, le_tran
 use native.Mathlib.Decide.{dec_le}
 use native.Mathlib.Omega.{arith}
 use lib.ListN.{length, get_or, take, drop, set, length-drop, length-append}
-use lib.Seq.{take-nil, take-set-le, get_or-set_same, take-take, drop-drop, take_at, drop_at, get_or_at, length-take-le}
+use lib.Seq.{take_all, take-nil, take-set-le, get_or-set_same, take-take, drop-drop, take_at, drop_at, get_or_at, length-take-le}
 use Rattle.turboshake.specs.declared.Sponge.{Sponge}
 use Rattle.turboshake.specs.Stream.{sponge, moved, drawn, after}
 use Rattle.turboshake.proofs.Moved.{moved_full, moved_part}
 use Rattle.turboshake.proofs.Drawn.{length_drawn, drawn_add, after_add}
 use Rattle.stream_states.specs.States.{state_of, states_of, starts_of, tile_of, all_after, Ready}
 
--- ---- the words of a state
+-- ---- the words of a state, copied one by one
 
-pub saved : (s : Sponge) (words front : List ℕ) → length s.lanes ≡ 25 → length words ≡ 26 → front ≡ s.lanes → state_of (set (front ++ drop 25 words) 25 s.at) ≡ s
-saved s words front h l e =
-    let long : length front ≡ 25 = omega (arith, ap length e, h) in
-    let lanes : take 25 (set (front ++ drop 25 words) 25 s.at) ≡ s.lanes = take-set-le 25 (front ++ drop 25 words) 25 s.at (omega arith) ∙ take_at front (drop 25 words) 25 long ∙ e in
-    let all : length (front ++ drop 25 words) ≡ 26 = simp (length-append, length-drop) (omega arith) in
-    ap₂ (λ (ws : List ℕ) (k : ℕ). sponge ws k) lanes (get_or-set_same (front ++ drop 25 words) 25 s.at 0 (omega arith))
+pub saved : (i : ℕ) (s : Sponge) (words : List ℕ) → i ≡ 25 → length s.lanes ≡ 25 → length words ≡ 26 → take i words ≡ take i s.lanes → state_of (set words 25 s.at) ≡ s
+saved i s words h l m e =
+    let lanes : take 25 (set words 25 s.at) ≡ s.lanes = take-set-le 25 words 25 s.at (omega arith) ∙ ap (λ (k : ℕ). take k words) (sym h) ∙ e ∙ take_all i s.lanes (omega (arith, h, l)) in
+    ap₂ (λ (ws : List ℕ) (k : ℕ). sponge ws k) lanes (get_or-set_same words 25 s.at 0 (omega (arith, m)))
 
 -- ---- the states that a row holds
 

@@ -8,7 +8,8 @@ ghost use Rattle.stream_states.specs.States.{state_of, states_of, starts_of, til
 
 use turboshake::Sponge;
 
-// The words of a state: its lanes, and its place in the block.
+// The words of a state: its lanes, and its place in the block. They are copied one by one, which LLVM makes a run of moves:
+// the library's copy would be a call.
 pub const WORDS: usize = 26;
 
 // The state that 26 words hold.
@@ -17,7 +18,9 @@ pub fn load(words: &[u64]) -> Sponge
     ensures { result ≡ state_of words.now }
 {
     let mut lanes = [0u64; 25];
-    lanes.copy_from_slice(&words[..25]);
+    for i in 0..25 {
+        lanes[i] = words[i];
+    }
     Sponge {
         lanes,
         at: words[25] as usize,
@@ -29,7 +32,9 @@ fn save(state: Sponge, words: &mut [u64])
     requires { length words.old ≡ 26 }
     ensures { state_of words.new ≡ state }
 {
-    words[..25].copy_from_slice(&state.lanes);
+    for i in 0..25 {
+        words[i] = state.lanes[i];
+    }
     words[25] = state.at as u64;
 }
 

@@ -59,8 +59,16 @@ fn read_lane(bytes: &[u8], i: usize) -> u64
     requires { i + 8 ≤ length bytes.now }
     ensures { (low_bytes 8 result ≡ take 8 (drop i bytes.now)) × (result < 2 ^ 64) }
 {
-    let mut lane = [0u8; 8];
-    lane.copy_from_slice(&bytes[i..i + 8]);
+    let lane = [
+        bytes[i],
+        bytes[i + 1],
+        bytes[i + 2],
+        bytes[i + 3],
+        bytes[i + 4],
+        bytes[i + 5],
+        bytes[i + 6],
+        bytes[i + 7],
+    ];
     u64::from_le_bytes(lane)
 }
 
