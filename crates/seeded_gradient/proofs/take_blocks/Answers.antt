@@ -1,5 +1,6 @@
 -- `seeded_gradient::take_blocks` meets its contract. Assumes nothing.
 use mathlib.Core.Path.{◌≡◌, sym, ap, subst, ◌∙◌}
+use mathlib.Core.Logic.{◌⊎◌}
 use Prim.Native.Nat.{ℕ, ◌+◌, ◌-◌, ◌*◌, ◌≤◌, ◌<◌}
 use native.Mathlib.Omega.{arith}
 use borrow.Rule.Slice.PartMut.{same_len_mid}
@@ -8,9 +9,7 @@ use lib.Seq.{length_front}
 use Rattle.field64.specs.Field.{p64}
 use Rattle.flp.specs.Encode.{elements}
 use Rattle.turboshake.specs.Stream.{after}
-use Rattle.groups.proofs.Swapped.{part_long}
-use Rattle.groups.proofs.Swapped.{row_long}
-use Rattle.seeded_gradient.proofs.Blocks.{Small}
+use Rattle.groups.proofs.Swapped.{part_long, row_long}
 use Rattle.wr_joint_rand.proofs.Blocks.{Done, first_done, next_drawn, all, after_more}
 use Rattle.seeded_gradient.proofs.take_blocks.Lts as lts
 use Rattle.seeded_gradient.proofs.take_blocks.Reads as reads
@@ -22,6 +21,10 @@ After-block_len = lts.After-block_len2 tie.the-claims reads.Pre reads.Post goal.
 
 abbrev At-loop-t : Type 0
 At-loop-t = lts.At-loop tie.the-claims reads.Pre reads.Post goal.the-invariant-loop-t goal.the-decreases-loop-t tie.handed_clauses
+
+-- a block that fits the buffer, or goes by tiles
+abbrev Small : (per n : ℕ) → Type 0
+Small per n = (n * per ≤ 8192) ⊎ (n ≤ 50)
 
 -- a block: the tests from t on, up to e, of T
 record Block (per t e T : ℕ) : Type 0 where
