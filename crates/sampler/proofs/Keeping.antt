@@ -68,15 +68,6 @@ module _ (p : ℕ) (row₀ row : List ℕ) (k i : ℕ) (inv : Keeping p row₀ r
         few true = omega (arith, inv.0.1)
         few false = omega (arith, inv.0.1)
 
-pub keeping_end : (p : ℕ) (row₀ row : List ℕ) (k i : ℕ) → Keeping p row₀ row k i → length row₀ ≤ i → (take k row ≡ kept_of p row₀) × (k ≡ length (kept_of p row₀))
-keeping_end p row₀ row k i inv h =
-    let e = take_all i row₀ h in
-    (inv.1.1.0 ∙ ap (kept_of p) e, inv.1.1.1.0 ∙ ap (λ (r : List ℕ). length (kept_of p r)) e)
-
-pub one_at_most : (t : Bool) → bool_byte t ≤ 1
-one_at_most true = omega arith
-one_at_most false = omega arith
-
 -- ---- a row that begins with those of a stream
 
 module _ (p : ℕ) (bytes : List ℕ) where
@@ -109,16 +100,6 @@ module _ (p : ℕ) (bytes : List ℕ) where
     all : values_of p N bytes ≡ values_of p u bytes ++ values_of p (N - u) (drop (8 * u) bytes)
     all = let e : N ≡ u + (N - u) = omega arith in ap (λ (m : ℕ). values_of p m bytes) e ∙ values_add p u (N - u) bytes
 
-    -- a row that is not full, of no more than there are, has some values left
-    pub some_left : k < length row → length row ≤ length (values_of p N bytes) → u < N
-    some_left h g = go (dec_le N u)
-      where
-        go : Dec (N ≤ u) → u < N
-        go (no n) = lt_of_not-le n
-        go (yes m) =
-            let e : u ≡ N = omega arith in
-            absurd (omega (arith, b.1, h, g, ap (λ (i : ℕ). length (values_of p i bytes)) e))
-
     -- one that is full has the first of them
     pub begins_all : k ≡ length row → row ≡ take (length row) (values_of p N bytes)
     begins_all e =
@@ -126,19 +107,6 @@ module _ (p : ℕ) (bytes : List ℕ) where
         is ∙ sym (ap (take (length row)) all ∙ take_at (values_of p u bytes) (values_of p (N - u) (drop (8 * u) bytes)) (length row) (sym b.1 ∙ e))
 
 -- ---- draws from a stream
-
-pub drew_next : (p : ℕ) (from : Draws) (s : Sponge) (m n kept : ℕ) (bytes row : List ℕ) → m ≡ 8 * n → bytes ≡ drawn m from.stream → (s ≡ after m from.stream) × (s.at < 168) → (take kept row ≡ values_of p n bytes) × (kept ≡ length (values_of p n bytes))
-    → DrewNext p from (record { stream = s; left = from.left - n; count = from.count + kept }) n row
-drew_next p from s m n kept bytes row e is on k =
-    let all : bytes ≡ drawn (8 * n) from.stream = is ∙ ap (λ (j : ℕ). drawn j from.stream) e in
-    let long : kept ≡ length (values_of p n (drawn (8 * n) from.stream)) = k.1 ∙ ap (λ (b : List ℕ). length (values_of p n b)) all in
-    record {
-      left = refl;
-      count = ap (λ (j : ℕ). from.count + j) long;
-      begins = ap (λ (j : ℕ). take j row) (sym long) ∙ k.0 ∙ ap (values_of p n) all;
-      on = on.0 ∙ ap (λ (j : ℕ). after j from.stream) e;
-      place = on.1;
-    }
 
 module _ (p : ℕ) (s : Sponge) (n : ℕ) where
   pub drawing_none : (at : s.at < 168) (row : List ℕ) → Drawing p s n (record { stream = s; left = n; count = 0 }) row
@@ -216,9 +184,6 @@ module _ (p : ℕ) (s : Sponge) (n : ℕ) where
 
     none_left : r.left ≡ 0 → length left ≡ 0
     none_left e = ap (λ (j : ℕ). length (values_of p j (drawn (8 * j) r.stream))) e ∙ ap length (values_none p (drawn (8 * 0) r.stream))
-
-    pub too_few : (w : ℕ) → length row ≤ w → r.count < length row → false ≡ leb w (length (values_of p n (drawn (8 * n) s)))
-    too_few w h g = sym (lt-leb w (length (values_of p n (drawn (8 * n) s))) (omega (arith, count_of, none_left (d.ends g))))
 
     -- ---- of a row that is to be full
 

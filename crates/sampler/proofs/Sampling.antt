@@ -1,15 +1,14 @@
 -- The cases of sampling: refused by the inputs, by a row, or by the draws, or accepted. Assumes nothing.
 use mathlib.Core.Path.{◌≡◌, sym, ap, ap₂, ◌∙◌}
-use mathlib.Core.Bool.{false}
 use mathlib.Core.List.{List}
-use Prim.Native.Nat.{ℕ, ◌*◌, ◌/◌, ◌≤◌}
+use Prim.Native.Nat.{ℕ, ◌*◌, ◌/◌}
 use native.Mathlib.Omega.{arith}
 use lib.ListN.{length, take, drop}
 use lib.Dec.{ltb}
-use borrow.Author.Tests.{eq-eqb, ne_eqb, ltb-false}
+use borrow.Author.Tests.{eq-eqb, ne_eqb}
 use Rattle.rules.specs.declared.Answer.{Answer}
 use Rattle.rules.specs.Rules.{refuse, first, in_order}
-use Rattle.rules.proofs.Chain.{refuse_last, first_refused, first_passed, split, both, not_so}
+use Rattle.rules.proofs.Chain.{refuse_last, first_refused, first_passed, split, both}
 use Rattle.pine.specs.declared.PineParam.{PineParam}
 use Rattle.pine.specs.Param.{Field, param_answer}
 use Rattle.pine.specs.Record.{encoded_input_len_of}
@@ -67,11 +66,6 @@ module _ (F : Field) (i : PineParam) (s share : List ℕ) where
         draws_refused h = refused late late_whole h
 
         module _ (z : late.number ≡ 0) where
-          pub enough : length share ≤ length (values_of F.p (length s / 8) s)
-          enough =
-              let f : ltb count (length share) ≡ false = not_so (ltb count (length share)) 17 0 (ap (λ (c : Answer). c.number) (sym late_is) ∙ z) in
-              omega (arith, ltb-false count (length share) f, counted)
-
           pub accepted_with : (row : List ℕ) → row ≡ take (length share) (values_of F.p (length s / 8) s) → outcome late row ≡ sample_of F i s share
           unfolding sample_of sampled
           accepted_with row e = rw (late_whole, eq-eqb late.number 0 z) (ap (outcome late) (e ∙ (λ j. take (lengths.1 j) (values_of F.p (limit j) s))))

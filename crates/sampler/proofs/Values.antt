@@ -2,19 +2,17 @@
 use mathlib.Core.Path.{◌≡◌, refl, sym, ap, ap₂, ◌∙◌}
 use mathlib.Core.Bool.{Bool, true, false, cond}
 use mathlib.Core.List.{List, [], ◌∷◌, ◌++◌}
-use Prim.Native.Nat.{ℕ, suc, ◌+◌, ◌-◌, ◌*◌, ◌≤◌, ◌<◌}
-use native.Mathlib.Nat.{sub-zero}
+use Prim.Native.Nat.{ℕ, suc, ◌+◌, ◌-◌, ◌*◌, ◌/◌, ◌≤◌, ◌<◌}
 use native.Mathlib.Omega.{arith}
 use lib.ListN.{length, take, drop, length-append, take-append-drop}
-use lib.Seq.{take_at, take-take, drop-drop}
+use lib.Seq.{take_at, drop_at}
 use lib.Dec.{ltb}
 use mir.Val.{bool_byte}
-use borrow.Author.Tests.{ltb-true, le-ltb}
-use Rattle.rules.specs.Rules.{accepted}
+use borrow.Author.Tests.{ltb-true}
 use Rattle.rows.specs.Rows.{Below}
 use Rattle.octets.specs.Octets.{from_bytes, elements_in}
 use Rattle.octets.proofs.Bytes.{length-elements_in, elements_in-drop, elements_in-take, elements_in_front}
-use Rattle.sampler.specs.Sampler.{draw_limit, kept_of, values_of, sampled, draws_rule}
+use Rattle.sampler.specs.Sampler.{draw_limit, kept_of, values_of}
 
 -- ---- those of a row that are kept
 
@@ -73,13 +71,10 @@ module _ (p : ℕ) where
   unfolding values_of
   values_front k m bytes h = ap (kept_of p) (elements_in_front k m bytes h)
 
-  -- the value that stands at i, counted or not
-  pub values_next : (i k : ℕ) (bytes : List ℕ) (v : ℕ) → v ≡ from_bytes (take 8 (drop (8 * i) bytes)) → length (values_of p (suc k) (drop (8 * i) bytes)) ≡ bool_byte (ltb v p) + length (values_of p k (drop (8 * (i + 1)) bytes))
+  -- the first value, counted or not
+  values_next : (k : ℕ) (first rest : List ℕ) (v : ℕ) → length first ≡ 8 → v ≡ from_bytes first → length (values_of p (suc k) (first ++ rest)) ≡ bool_byte (ltb v p) + length (values_of p k rest)
   unfolding values_of kept_of elements_in
-  values_next i k bytes v e =
-      let place : 8 * i + 8 ≡ 8 * (i + 1) = omega arith in
-      let next : drop 8 (drop (8 * i) bytes) ≡ drop (8 * (i + 1)) bytes = drop-drop 8 (8 * i) bytes ∙ ap (λ (j : ℕ). drop j bytes) place in
-      rw (sym e, next) (go (ltb v p) (kept_of p (elements_in k (drop (8 * (i + 1)) bytes))))
+  values_next k first rest v l e = rw (take_at first rest 8 l, drop_at first rest 8 l, sym e) (go (ltb v p) (kept_of p (elements_in k rest)))
     where
       go : (t : Bool) (r : List ℕ) → length (cond t (v ∷ r) r) ≡ bool_byte t + length r
       go true r = omega arith
@@ -91,46 +86,27 @@ module _ (p : ℕ) where
     all : values_of p (draw_limit n) bytes ≡ values_of p u bytes ++ values_of p (draw_limit n - u) (drop (8 * u) bytes)
     all = let e : draw_limit n ≡ u + (draw_limit n - u) = omega arith in ap (λ (m : ℕ). values_of p m bytes) e ∙ values_add u (draw_limit n - u) bytes
 
-    -- the values up to u are the first of them
-    pub sampled_front : length (values_of p u bytes) ≤ n → take (length (values_of p u bytes)) (sampled p n bytes) ≡ values_of p u bytes
-    unfolding sampled
-    sampled_front h =
-        let v = values_of p u bytes in
-        take-take (length v) n (values_of p (draw_limit n) bytes) h ∙ ap (take (length v)) all ∙ take_at v (values_of p (draw_limit n - u) (drop (8 * u) bytes)) (length v) refl
-
-    pub found : length (values_of p u bytes) ≡ n → sampled p n bytes ≡ values_of p u bytes
-    unfolding sampled
-    found e = ap (take n) all ∙ take_at (values_of p u bytes) (values_of p (draw_limit n - u) (drop (8 * u) bytes)) n e
-
-    pub enough : length (values_of p u bytes) ≡ n → draws_rule p n bytes ≡ accepted
-    unfolding draws_rule
-    enough e =
-        let h : n ≤ length (values_of p (draw_limit n) bytes) = rw all (rw (length-append (values_of p u bytes) (values_of p (draw_limit n - u) (drop (8 * u) bytes))) (omega arith)) in
-        rw (le-ltb (length (values_of p (draw_limit n) bytes)) n h)
-
   -- ---- counting those of a whole row of bytes
 
-  module _ (N : ℕ) (bytes : List ℕ) where
-    -- so many among the first i values, and those among the rest
-    abbrev pub Counting : (count i : ℕ) → Type 0
-    Counting count i = (i ≤ N) × ((count ≤ i) × (length (values_of p N bytes) ≡ count + length (values_of p (N - i) (drop (8 * i) bytes))))
+  module _ (bytes : List ℕ) where
+    -- so many are counted, and those of the bytes that are left are still to come
+    abbrev pub Counting : (count : ℕ) (left : List ℕ) → Type 0
+    Counting count left = (8 * count + length left ≤ length bytes) × (length (values_of p (length bytes / 8) bytes) ≡ count + length (values_of p (length left / 8) left))
 
-    pub counting_none : Counting 0 0
-    counting_none = (omega arith, (omega arith, ap (λ (k : ℕ). length (values_of p k bytes)) (sym (sub-zero N)) ∙ omega arith))
-
-    pub counting_next : (count i v : ℕ) → Counting count i → i < N → v ≡ from_bytes (take 8 (drop (8 * i) bytes)) → Counting (count + bool_byte (ltb v p)) (i + 1)
-    counting_next count i v c h e =
-        let left : N - i ≡ suc (N - (i + 1)) = omega arith in
-        let more : length (values_of p (N - i) (drop (8 * i) bytes)) ≡ bool_byte (ltb v p) + length (values_of p (N - (i + 1)) (drop (8 * (i + 1)) bytes)) =
-        ap (λ (k : ℕ). length (values_of p k (drop (8 * i) bytes))) left ∙ values_next i (N - (i + 1)) bytes v e in
-        (omega arith, (few (ltb v p) c.1.0, omega (arith, c.1.1)))
+    pub counting_next : (count v : ℕ) (left first rest : List ℕ) → Counting count left → left ≡ first ++ rest → length first ≡ 8 → v ≡ from_bytes first → Counting (count + bool_byte (ltb v p)) rest
+    counting_next count v left first rest c cut l e =
+        let long : length left ≡ 8 + length rest = omega (arith, ap length cut, length-append first rest, l) in
+        let more : length left / 8 ≡ suc (length rest / 8) = omega arith in
+        let next : length (values_of p (length left / 8) left) ≡ bool_byte (ltb v p) + length (values_of p (length rest / 8) rest) =
+        ap₂ (λ (k : ℕ) (bs : List ℕ). length (values_of p k bs)) more cut ∙ values_next (length rest / 8) first rest v l e in
+        (omega (arith, few (ltb v p), c.0), omega (arith, c.1))
       where
-        few : (t : Bool) → count ≤ i → count + bool_byte t ≤ i + 1
-        few true l = omega arith
-        few false l = omega arith
+        few : (t : Bool) → bool_byte t ≤ 1
+        few true = omega arith
+        few false = omega arith
 
-    pub counting_end : (count i : ℕ) → Counting count i → N ≤ i → count ≡ length (values_of p N bytes)
-    counting_end count i c h =
-        let none : N - i ≡ 0 = omega arith in
-        let over : length (values_of p (N - i) (drop (8 * i) bytes)) ≡ 0 = ap (λ (k : ℕ). length (values_of p k (drop (8 * i) bytes))) none ∙ ap length (values_none (drop (8 * i) bytes)) in
-        omega (arith, c.1.1)
+    pub counting_end : (count : ℕ) (left : List ℕ) → Counting count left → length left < 8 → count ≡ length (values_of p (length bytes / 8) bytes)
+    counting_end count left c h =
+        let none : length left / 8 ≡ 0 = omega arith in
+        let over : length (values_of p (length left / 8) left) ≡ 0 = ap (λ (k : ℕ). length (values_of p k left)) none ∙ ap length (values_none left) in
+        omega (arith, c.1)

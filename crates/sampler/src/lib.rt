@@ -35,12 +35,10 @@ fn keep(row: &mut [u64]) -> usize
     ensures { (take result row.new ≡ kept_of p64 row.old) × (result ≡ length (kept_of p64 row.old)) }
 {
     let mut k = 0;
-    let mut i = 0;
-    while i < row.len() {
+    for i in 0..row.len() {
         let v = row[i];
         row[k] = v;
         k += (v < field64::P) as usize;
-        i += 1;
     }
     k
 }
@@ -90,6 +88,7 @@ fn draw_by(stream: Sponge, left: usize, bytes: &mut [u8], row: &mut [u64]) -> Dr
         count: 0,
     };
     let mut n = next_draws(row.len(), left);
+    // The steps are as many as skipped values make necessary.
     while 0 < n {
         let at = drew.count;
         let end = at + n;
@@ -131,6 +130,7 @@ pub fn has_values(stream: Sponge, left: usize, wanted: usize) -> bool
     let mut state = stream;
     let mut draws = left;
     let mut rest = wanted;
+    // Each step takes the draws that the one before left.
     while 0 < rest {
         let n = groups::at_most(rest, PIECE);
         let drew = draw(state, draws, &mut spare[..n]);
@@ -151,13 +151,8 @@ fn count_values(bytes: &[u8]) -> usize
     ensures { result ≡ length (values_of p64 (length bytes.now / 8) bytes.now) }
 {
     let mut count = 0;
-    let mut i = 0;
-    while i < bytes.len() / 8 {
-        let at = 8 * i;
-        let end = at + 8;
-        let v = octets::number8(&bytes[at..end]);
-        count += (v < field64::P) as usize;
-        i += 1;
+    for value in bytes.chunks_exact(8) {
+        count += (octets::number8(value) < field64::P) as usize;
     }
     count
 }
@@ -169,6 +164,7 @@ fn take_values(bytes: &[u8], row: &mut [u64])
 {
     let mut used = 0;
     let mut count = 0;
+    // The steps are as many as skipped values make necessary.
     while count < row.len() {
         let n = groups::at_most(row.len() - count, bytes.len() / 8 - used);
         let at = 8 * used;

@@ -106,6 +106,7 @@ fn take_blocks(
     );
     let mut state = taken.next;
     let mut t = first;
+    // A step takes as many tests as the next block.
     while t < results.len() {
         let end = t + block_len(per, results.len() - t);
         let more = take_block(gradient, scale, frac_bits, per, state, &mut results[t..end]);

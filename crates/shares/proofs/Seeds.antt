@@ -1,7 +1,7 @@
 -- The five seeds, the helper's values, and the row of the seeds given. Assumes nothing.
 use mathlib.Core.Path.{◌≡◌, sym, ap, ap₂, subst, ◌∙◌}
 use mathlib.Core.List.{List, [], ◌∷◌, ◌++◌, append-nil}
-use Prim.Native.Nat.{ℕ, zero, suc, ◌+◌, ◌-◌, ◌*◌, ◌≤◌}
+use Prim.Native.Nat.{ℕ, zero, suc, ◌-◌, ◌*◌, ◌≤◌}
 use native.Mathlib.Omega.{arith}
 use lib.ListN.{length, take, drop, length-append, length-drop, drop_of_length-le}
 use lib.Seq.{take_at, take-take, length-take-le}
@@ -36,11 +36,6 @@ bytes_drop (suc n) (b ∷ bs) f = bytes_drop n bs f.1
 
 pub seed_bytes : (k : ℕ) (seeds : List ℕ) → Bytes seeds → Bytes (seed_at k seeds)
 seed_bytes k seeds f = bytes_take 16 (drop (16 * k) seeds) (bytes_drop (16 * k) seeds f)
-
-pub seed_is : (k : ℕ) (seeds r : List ℕ) → r ≡ take (16 * k + 16 - 16 * k) (drop (16 * k) seeds) → r ≡ seed_at k seeds
-seed_is k seeds r e =
-    let n : 16 * k + 16 - 16 * k ≡ 16 = omega arith in
-    e ∙ ap (λ (m : ℕ). take m (drop (16 * k) seeds)) n
 
 -- ---- the helper's values
 

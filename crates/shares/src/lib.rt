@@ -78,8 +78,8 @@ fn write_given(wr: [u8; 16], vf: [u8; 16], given: &mut [u8])
     requires { length given.old ≡ 32 }
     ensures { given.new ≡ wr ++ vf }
 {
-    octets::copy_bytes(&wr, &mut given[..16]);
-    octets::copy_bytes(&vf, &mut given[16..]);
+    given[..16].copy_from_slice(&wr);
+    given[16..].copy_from_slice(&vf);
 }
 
 // Cuts the measurement in the leader's row.

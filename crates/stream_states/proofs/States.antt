@@ -6,7 +6,7 @@ use native.Mathlib.Nat.{zero-mul, suc-mul, mul-le-mul, mul-le-mul_right, le_tran
 use native.Mathlib.Decide.{dec_le}
 use native.Mathlib.Omega.{arith}
 use lib.ListN.{length, get_or, take, drop, set, length-drop, length-append}
-use lib.Seq.{take_all, take-nil, take-suc, take-suc-set, take-set-le, get_or-set_same, take-take, drop-drop, take_at, drop_at, get_or_at, length-take-le}
+use lib.Seq.{take_all, take-nil, take-set-le, get_or-set_same, take-take, drop-drop, take_at, drop_at, get_or_at, length-take-le}
 use Rattle.turboshake.specs.declared.Sponge.{Sponge}
 use Rattle.turboshake.specs.Stream.{sponge, moved, drawn, after}
 use Rattle.turboshake.proofs.Moved.{moved_full, moved_part}
@@ -14,16 +14,6 @@ use Rattle.turboshake.proofs.Drawn.{length_drawn, drawn_add, after_add}
 use Rattle.stream_states.specs.States.{state_of, states_of, starts_of, tile_of, all_after, Ready}
 
 -- ---- the words of a state, copied one by one
-
-pub copied_next : (i : ℕ) (to from : List ℕ) → i < length to → i < length from → take i to ≡ take i from → take (i + 1) (set to i (get_or from i 0)) ≡ take (i + 1) from
-copied_next i to from h l e =
-    let one : i + 1 ≡ suc i = omega arith in
-    rw one (take-suc-set to i (get_or from i 0) h ∙ ap (λ (ws : List ℕ). ws ++ (get_or from i 0 ∷ [])) e ∙ sym (take-suc from i 0 l))
-
-pub loaded : (i : ℕ) (lanes words : List ℕ) → i ≡ 25 → length lanes ≡ 25 → take i lanes ≡ take i words → sponge lanes (get_or words 25 0) ≡ state_of words
-loaded i lanes words h l e =
-    let all : lanes ≡ take 25 words = sym (take_all 25 lanes (omega (arith, l))) ∙ ap (λ (k : ℕ). take k lanes) (sym h) ∙ e ∙ ap (λ (k : ℕ). take k words) h in
-    ap (λ (ws : List ℕ). sponge ws (get_or words 25 0)) all
 
 pub saved : (i : ℕ) (s : Sponge) (words : List ℕ) → i ≡ 25 → length s.lanes ≡ 25 → length words ≡ 26 → take i words ≡ take i s.lanes → state_of (set words 25 s.at) ≡ s
 saved i s words h l m e =
@@ -179,12 +169,6 @@ tile_append n (s ∷ ss) us = ap (λ (bs : List ℕ). drawn n s ++ bs) (tile_app
 pub inside : (t T n l : ℕ) → t < T → T * n ≤ l → t * n + n ≤ l
 inside t T n l h m = omega (arith, suc-mul t n, mul-le-mul_right n h)
 
--- they are few
-pub few : (t T n : ℕ) → t < T → T ≤ 50 → n ≤ 128 → t * n ≤ 6400
-few t T n h l m =
-    let k : t ≤ 50 = omega arith in
-    mul-le-mul k m
-
 pub roomy : (T T' n a b : ℕ) → T' ≡ T → T ≤ 50 → n ≤ 128 → a ≡ b → 6400 ≤ b → T' * n ≤ a
 roomy T T' n a b e h l f m = rw (e, f) (le_trans (mul-le-mul h l) m)
 
@@ -201,9 +185,6 @@ piece_long from n xs h =
 module _ (n : ℕ) (ws₀ : List ℕ) where
   abbrev pub Tiled : (t : ℕ) (ws b : List ℕ) → Type 0
   Tiled t ws b = (states_of t ws ≡ all_after n (states_of t ws₀)) × ((drop (t * 26) ws ≡ drop (t * 26) ws₀) × (take (t * n) b ≡ tile_of n (states_of t ws₀)))
-
-  pub tiled_none : (b : List ℕ) → Tiled 0 ws₀ b
-  tiled_none b = (refl, (refl, ap (λ (k : ℕ). take k b) (zero-mul n)))
 
   module _ (t : ℕ) (ws b : List ℕ) (w : Tiled t ws b) where
     -- the state of test t is as it was

@@ -8,7 +8,8 @@ ghost use Rattle.stream_states.specs.States.{state_of, states_of, starts_of, til
 
 use turboshake::Sponge;
 
-// The words of a state: its lanes, and its place in the block.
+// The words of a state: its lanes, and its place in the block. They are copied one by one, which LLVM makes a run of moves:
+// the library's copy would be a call.
 pub const WORDS: usize = 26;
 
 // The state that 26 words hold.
@@ -17,10 +18,8 @@ pub fn load(words: &[u64]) -> Sponge
     ensures { result ≡ state_of words.now }
 {
     let mut lanes = [0u64; 25];
-    let mut i = 0;
-    while i < 25 {
+    for i in 0..25 {
         lanes[i] = words[i];
-        i += 1;
     }
     Sponge {
         lanes,
@@ -33,11 +32,8 @@ fn save(state: Sponge, words: &mut [u64])
     requires { length words.old ≡ 26 }
     ensures { state_of words.new ≡ state }
 {
-    let lanes = state.lanes;
-    let mut i = 0;
-    while i < 25 {
-        words[i] = lanes[i];
-        i += 1;
+    for i in 0..25 {
+        words[i] = state.lanes[i];
     }
     words[25] = state.at as u64;
 }
@@ -51,13 +47,11 @@ pub fn find_starts(stream: Sponge, per: usize, count: usize, states: &mut [u64])
 {
     let last = count - 1;
     let mut next = stream;
-    let mut t = 0;
-    while t < last {
+    for t in 0..last {
         let from = t * WORDS;
         let to = from + WORDS;
         save(next, &mut states[from..to]);
         next = next.skip(per);
-        t += 1;
     }
     let from = last * WORDS;
     let to = from + WORDS;
@@ -82,13 +76,11 @@ pub fn draw_tile(count: usize, n: usize, states: &mut [u64], buffer: &mut [u8])
     ensures buffer_after { take (count * n) buffer.new ≡ tile_of n (states_of count states.old) }
     ensures states_after { states_of count states.new ≡ all_after n (states_of count states.old) }
 {
-    let mut t = 0;
-    while t < count {
+    for t in 0..count {
         let from = t * n;
         let to = from + n;
         let start = t * WORDS;
         let end = start + WORDS;
         draw_piece(&mut states[start..end], &mut buffer[from..to]);
-        t += 1;
     }
 }

@@ -58,6 +58,7 @@ fn run_tiles(
     let count = results.len();
     let mut norm = Sum::none();
     let mut j = 0;
+    // A step takes as many bytes as a group is wide.
     while j < per {
         let group = groups::group_from(j, WIDTH, per, gradient.len());
         let first = group.first;

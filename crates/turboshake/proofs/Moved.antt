@@ -1,16 +1,16 @@
 -- Places in the block, and the loops over bytes. Assumes nothing.
 use mathlib.Core.Path.{◌≡◌, sym, ap, ◌∙◌}
 use mathlib.Core.List.{List}
-use Prim.Native.Nat.{ℕ, suc, ◌+◌, ◌*◌, ◌%◌, ◌^◌, ◌<◌, ◌≤◌}
+use Prim.Native.Nat.{ℕ, suc, ◌+◌, ◌*◌, ◌%◌, ◌^◌, ◌<◌}
 use native.Mathlib.Omega.{arith}
 use borrow.Author.Tests.{eq-eqb, ne_eqb}
-use lib.ListN.{length, get_or, take, drop, drop_of_length-le, take-append-drop}
-use lib.Seq.{drop-cons, drop-drop}
+use lib.ListN.{take, drop, take-append-drop}
+use lib.Seq.{drop-drop}
 use lib.Pow.{shl_exact}
 use Rattle.keccak.specs.Keccak.{keccak_p}
 use Rattle.keccak.proofs.Rounds.{each_append}
 use Rattle.turboshake.specs.declared.Sponge.{Sponge}
-use Rattle.turboshake.specs.Stream.{sponge, moved, xor_byte, absorb_byte, absorb_all}
+use Rattle.turboshake.specs.Stream.{sponge, moved, absorb_byte, absorb_all}
 
 pub moved_full : (n k : ℕ) (ws : List ℕ) → k + n ≡ 168 → moved n (sponge ws k) ≡ sponge (keccak_p ws) 0
 unfolding moved
@@ -32,13 +32,6 @@ pub absorbs_part : (bytes : List ℕ) (s₀ s next : Sponge) (i n : ℕ) → Abs
 absorbs_part bytes s₀ s next i n l e =
     ap (absorb_all (drop (i + n) bytes)) e ∙ ap (λ (r : List ℕ). absorb_all r (absorb_all (take n (drop i bytes)) s)) (sym (drop-drop n i bytes))
     ∙ sym (each_append absorb_byte (take n (drop i bytes)) (drop n (drop i bytes)) s) ∙ ap (λ (r : List ℕ). absorb_all r s) (take-append-drop n (drop i bytes)) ∙ l
-
-pub absorbs_none : (bytes : List ℕ) (s₀ s : Sponge) (i : ℕ) → length bytes ≤ i → Absorbs bytes s₀ s i → s ≡ absorb_all bytes s₀
-absorbs_none bytes s₀ s i h l = ap (λ (bs : List ℕ). absorb_all bs s) (sym (drop_of_length-le bytes h)) ∙ l
-
--- one byte
-pub byte_absorbed : (bytes ws : List ℕ) (k i : ℕ) → i < length bytes → moved 1 (sponge (xor_byte k ws (get_or bytes i 0)) k) ≡ absorb_all (take 1 (drop i bytes)) (sponge ws k)
-byte_absorbed bytes ws k i h = rw (drop-cons bytes i 0 h)
 
 -- one place further back, one place more
 pub moved_shift : (n k : ℕ) (ws : List ℕ) → moved n (sponge ws (k + 1)) ≡ moved (suc n) (sponge ws k)

@@ -16,19 +16,12 @@ pub struct Sponge {
     pub at: usize,
 }
 
-fn wide(b: u8) -> u64
-    ensures { (result ≡ b) × (result < 256) }
-{
-    b as u64
-}
-
 // Xors b into byte at of the lanes.
 fn put(lanes: &mut [u64; 25], at: usize, b: u8)
     requires { at < 168 }
     ensures { lanes.new ≡ xor_byte at lanes.old b }
 {
-    let q = at / 8;
-    lanes[q] = lanes[q] ^ (wide(b) << (8 * (at % 8)));
+    lanes[at / 8] ^= (b as u64) << (8 * (at % 8));
 }
 
 // The place n bytes on. At the block's end the lanes are permuted.
@@ -52,30 +45,13 @@ fn put_word(lanes: &mut [u64; 25], at: usize, w: u64) -> usize
     let q = at / 8;
     let skip = at % 8;
     if skip == 0 {
-        lanes[q] = lanes[q] ^ w;
+        lanes[q] ^= w;
         return advance(lanes, at, 8);
     }
-    lanes[q] = lanes[q] ^ (w << (8 * skip));
+    lanes[q] ^= w << (8 * skip);
     let next = advance(lanes, at, 8 - skip);
-    let p = next / 8;
-    lanes[p] = lanes[p] ^ (w >> (64 - 8 * skip));
+    lanes[next / 8] ^= w >> (64 - 8 * skip);
     next + skip
-}
-
-// Four bytes by place value.
-fn placed(a: u64, b: u64, c: u64, d: u64) -> u64
-    requires { ((a < 256) × (b < 256)) × ((c < 256) × (d < 256)) }
-    ensures { (result ≡ a + b * 0x100 + c * 0x10000 + d * 0x1000000) × (result < 2 ^ 32) }
-{
-    a + b * 0x100 + c * 0x1_0000 + d * 0x100_0000
-}
-
-// Byte i of a row.
-fn byte_at(bytes: &[u8], i: usize) -> u64
-    requires { i < length bytes.now }
-    ensures { (result ≡ get_or bytes.now i 0) × (result < 256) }
-{
-    wide(bytes[i])
 }
 
 // The number whose bytes are the eight from i on. LLVM makes one load of them.
@@ -83,15 +59,17 @@ fn read_lane(bytes: &[u8], i: usize) -> u64
     requires { i + 8 ≤ length bytes.now }
     ensures { (low_bytes 8 result ≡ take 8 (drop i bytes.now)) × (result < 2 ^ 64) }
 {
-    let b0 = byte_at(bytes, i);
-    let b1 = byte_at(bytes, i + 1);
-    let b2 = byte_at(bytes, i + 2);
-    let b3 = byte_at(bytes, i + 3);
-    let b4 = byte_at(bytes, i + 4);
-    let b5 = byte_at(bytes, i + 5);
-    let b6 = byte_at(bytes, i + 6);
-    let b7 = byte_at(bytes, i + 7);
-    placed(b0, b1, b2, b3) + placed(b4, b5, b6, b7) * 0x1_0000_0000
+    let lane = [
+        bytes[i],
+        bytes[i + 1],
+        bytes[i + 2],
+        bytes[i + 3],
+        bytes[i + 4],
+        bytes[i + 5],
+        bytes[i + 6],
+        bytes[i + 7],
+    ];
+    u64::from_le_bytes(lane)
 }
 
 // Xors a whole block of a row, from i on, into the lanes.
@@ -99,10 +77,8 @@ fn put_block(lanes: &mut [u64; 25], bytes: &[u8], i: usize)
     requires { i + 168 ≤ length bytes.now }
     ensures { moved 168 (sponge lanes.new 0) ≡ absorb_all (take 168 (drop i bytes.now)) (sponge lanes.old 0) }
 {
-    let mut q = 0;
-    while q < 21 {
-        lanes[q] = lanes[q] ^ read_lane(bytes, i + 8 * q);
-        q += 1;
+    for q in 0..21 {
+        lanes[q] ^= read_lane(bytes, i + 8 * q);
     }
 }
 
@@ -113,18 +89,13 @@ fn put_next(lanes: &mut [u64; 25], at: usize, bytes: &[u8], i: usize) -> usize
     ensures { ((0 < result) × (at + result ≤ 168)) × ((i + result ≤ length bytes.now) × (moved result (sponge lanes.new at) ≡ absorb_all (take result (drop i bytes.now)) (sponge lanes.old at))) }
 {
     let left = bytes.len() - i;
-    if at == 0 {
-        if RATE <= left {
-            put_block(lanes, bytes, i);
-            return RATE;
-        }
+    if at == 0 && RATE <= left {
+        put_block(lanes, bytes, i);
+        return RATE;
     }
-    if at % 8 == 0 {
-        if 8 <= left {
-            let q = at / 8;
-            lanes[q] = lanes[q] ^ read_lane(bytes, i);
-            return 8;
-        }
+    if at % 8 == 0 && 8 <= left {
+        lanes[at / 8] ^= read_lane(bytes, i);
+        return 8;
     }
     put(lanes, at, bytes[i]);
     1
@@ -135,21 +106,7 @@ fn write_lane(w: u64, i: usize, out: &mut [u8])
     requires { i + 8 ≤ length out.old }
     ensures { out.new ≡ take i out.old ++ (low_bytes 8 w ++ drop (i + 8) out.old) }
 {
-    let w1 = w / 256;
-    let w2 = w1 / 256;
-    let w3 = w2 / 256;
-    let w4 = w3 / 256;
-    let w5 = w4 / 256;
-    let w6 = w5 / 256;
-    let w7 = w6 / 256;
-    out[i] = (w % 256) as u8;
-    out[i + 1] = (w1 % 256) as u8;
-    out[i + 2] = (w2 % 256) as u8;
-    out[i + 3] = (w3 % 256) as u8;
-    out[i + 4] = (w4 % 256) as u8;
-    out[i + 5] = (w5 % 256) as u8;
-    out[i + 6] = (w6 % 256) as u8;
-    out[i + 7] = (w7 % 256) as u8;
+    out[i..i + 8].copy_from_slice(&w.to_le_bytes());
 }
 
 // Writes a whole block from i on.
@@ -157,10 +114,8 @@ fn write_block(lanes: &[u64; 25], i: usize, out: &mut [u8])
     requires { i + 168 ≤ length out.old }
     ensures { out.new ≡ take i out.old ++ (drawn 168 (sponge lanes.now 0) ++ drop (i + 168) out.old) }
 {
-    let mut q = 0;
-    while q < 21 {
+    for q in 0..21 {
         write_lane(lanes[q], i + 8 * q, out);
-        q += 1;
     }
 }
 
@@ -171,19 +126,14 @@ fn write_next(lanes: &[u64; 25], at: usize, i: usize, out: &mut [u8]) -> usize
     ensures { ((0 < result) × (at + result ≤ 168)) × ((i + result ≤ length out.old) × (out.new ≡ take i out.old ++ (drawn result (sponge lanes.now at) ++ drop (i + result) out.old))) }
 {
     let room = out.len() - i;
-    if at == 0 {
-        if RATE <= room {
-            write_block(lanes, i, out);
-            return RATE;
-        }
+    if at == 0 && RATE <= room {
+        write_block(lanes, i, out);
+        return RATE;
     }
-    let q = at / 8;
-    let w = lanes[q];
-    if at % 8 == 0 {
-        if 8 <= room {
-            write_lane(w, i, out);
-            return 8;
-        }
+    let w = lanes[at / 8];
+    if at % 8 == 0 && 8 <= room {
+        write_lane(w, i, out);
+        return 8;
     }
     out[i] = ((w >> (8 * (at % 8))) % 256) as u8;
     1
@@ -207,6 +157,7 @@ impl Sponge {
         let mut lanes = self.lanes;
         let mut at = self.at;
         let mut i = 0;
+        // Steps are of a block, a lane or a byte.
         while i < bytes.len() {
             let n = put_next(&mut lanes, at, bytes, i);
             at = advance(&mut lanes, at, n);
@@ -222,10 +173,8 @@ impl Sponge {
     {
         let mut lanes = self.lanes;
         let mut at = self.at;
-        let mut i = 0;
-        while i < words.len() {
-            at = put_word(&mut lanes, at, words[i]);
-            i += 1;
+        for &word in words {
+            at = put_word(&mut lanes, at, word);
         }
         Sponge { lanes, at }
     }
@@ -251,6 +200,7 @@ impl Sponge {
         let mut lanes = self.lanes;
         let mut at = self.at;
         let mut i = 0;
+        // Steps are of a block, a lane or a byte.
         while i < out.len() {
             let n = write_next(&lanes, at, i, out);
             at = advance(&mut lanes, at, n);
@@ -265,12 +215,14 @@ impl Sponge {
         ensures { (result ≡ after n self) × (result.at < 168) }
     {
         let mut lanes = self.lanes;
-        let mut at = self.at + n;
-        while RATE <= at {
+        let place = self.at + n;
+        for _ in 0..place / RATE {
             keccak::permute(&mut lanes);
-            at -= RATE;
         }
-        Sponge { lanes, at }
+        Sponge {
+            lanes,
+            at: place % RATE,
+        }
     }
 }
 

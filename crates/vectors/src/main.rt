@@ -8,88 +8,43 @@ use std::io;
 use std::io::Write;
 use turboshake::Sponge;
 
+// Lengths about a block's end.
 const LENGTHS: [usize; 8] = [0, 1, 167, 168, 169, 335, 336, 337];
 
 // Fills a row with 0, 1, .., 250, 0, 1, ..
 fn pattern(row: &mut [u8]) {
-    let mut i = 0;
-    while i < row.len() {
-        row[i] = (i % 251) as u8;
-        i += 1;
+    for (i, byte) in row.iter_mut().enumerate() {
+        *byte = (i % 251) as u8;
     }
 }
 
-fn wide(b: u8) -> u64 {
-    b as u64
-}
-
-fn end_line<W: Write>(writer: &mut W) -> io::Result<()> {
-    writer.write_all(b"\n")
-}
-
+// Writes a line with a row's bytes.
 fn print<W: Write>(writer: &mut W, row: &[u8]) -> io::Result<()> {
-    let mut i = 0;
-    while i < row.len() {
-        write!(writer, "{:02x}", wide(row[i]))?;
-        i += 1;
+    for byte in row {
+        write!(writer, "{byte:02x}")?;
     }
-    end_line(writer)
-}
-
-fn print_first<W: Write>(writer: &mut W, row: &[u8], n: usize) -> io::Result<()> {
-    if n <= row.len() {
-        print(writer, &row[..n])?;
-    }
-    Ok(())
-}
-
-fn absorb_first(s: Sponge, row: &[u8], n: usize) -> Sponge
-    requires { s.at < 168 }
-    ensures { result.at < 168 }
-{
-    if n <= row.len() {
-        s.absorb(&row[..n])
-    } else {
-        s
-    }
-}
-
-fn absorb_part(s: Sponge, row: &[u8; 251], n: usize) -> Sponge
-    requires { s.at < 168 }
-    ensures { result.at < 168 }
-{
-    absorb_first(s, row, n)
+    writeln!(writer)
 }
 
 // The state after n bytes of the pattern, which go in by rows.
 fn absorb_pattern(n: usize) -> Sponge
     ensures { result.at < 168 }
 {
-    let mut row = [0u8; 251];
+    let mut row = [0; 251];
     pattern(&mut row);
-    let mut s = Sponge::new();
-    let mut left = n;
-    while 251 <= left {
-        let next = absorb_part(s, &row, 251);
-        s = next;
-        left -= 251;
+    let mut sponge = Sponge::new();
+    for _ in 0..n / 251 {
+        sponge = sponge.absorb(&row);
     }
-    absorb_part(s, &row, left)
-}
-
-fn fill_row(s: Sponge, row: &mut [u8; 100]) -> Sponge
-    requires { s.at < 168 }
-    ensures { result.at < 168 }
-{
-    s.fill(row)
+    sponge.absorb(&row[..n % 251])
 }
 
 // Writes the next 32 bytes of output.
-fn show_next<W: Write>(writer: &mut W, s: Sponge) -> io::Result<()>
-    requires { s.at < 168 }
+fn show_next<W: Write>(writer: &mut W, sponge: Sponge) -> io::Result<()>
+    requires { sponge.at < 168 }
 {
-    let mut out = [0u8; 32];
-    s.fill(&mut out);
+    let mut out = [0; 32];
+    sponge.fill(&mut out);
     print(writer, &out)
 }
 
@@ -97,109 +52,77 @@ fn show_next<W: Write>(writer: &mut W, s: Sponge) -> io::Result<()>
 fn show<W: Write>(writer: &mut W, message: Sponge, d: u8, rows: usize) -> io::Result<()>
     requires { message.at < 168 }
 {
-    let mut skipped = [0u8; 100];
-    let mut s = message.finish(d);
-    let mut i = 0;
-    while i < rows {
-        let next = fill_row(s, &mut skipped);
-        s = next;
-        i += 1;
+    let mut skipped = [0; 100];
+    let mut sponge = message.finish(d);
+    for _ in 0..rows {
+        sponge = sponge.fill(&mut skipped);
     }
-    show_next(writer, s)
+    show_next(writer, sponge)
 }
 
 // The RFC's examples.
 fn show_examples<W: Write>(writer: &mut W) -> io::Result<()> {
     show(writer, absorb_pattern(0), 0x07, 0)?;
     show(writer, absorb_pattern(0), 0x07, 100)?;
-    let mut n = 1;
-    while n <= 1419857 {
+    // The powers of 17.
+    for n in [1, 17, 289, 4913, 83521, 1419857] {
         show(writer, absorb_pattern(n), 0x07, 0)?;
-        n *= 17;
     }
-    show(writer, Sponge::new().absorb(b"\xff"), 0x06, 0)?;
-    show(writer, Sponge::new().absorb(b"\xff\xff\xff"), 0x06, 0)?;
-    show(
-        writer,
-        Sponge::new().absorb(b"\xff\xff\xff\xff\xff\xff\xff"),
-        0x06,
-        0,
-    )
-}
-
-fn fill_cut(message: &[u8], m: usize, out: &mut [u8], n: usize) {
-    if m <= message.len() {
-        if n <= out.len() {
-            turboshake::turbo_shake128(&message[..m], 1, &mut out[..n]);
-        }
-    }
-}
-
-// n bytes of output for m bytes of the pattern.
-fn show_cut<W: Write>(writer: &mut W, m: usize, n: usize) -> io::Result<()> {
-    let mut message = [0u8; 337];
-    let mut out = [0u8; 337];
-    pattern(&mut message);
-    fill_cut(&message, m, &mut out, n);
-    print_first(writer, &out, n)
-}
-
-fn show_cuts<W: Write>(writer: &mut W) -> io::Result<()> {
-    let lengths = LENGTHS;
-    let mut k: usize = 0;
-    while k < 64 {
-        show_cut(writer, lengths[k / 8], lengths[k % 8])?;
-        k += 1;
+    for length in [1, 3, 7] {
+        show(writer, Sponge::new().absorb(&[0xff; 7][..length]), 0x06, 0)?;
     }
     Ok(())
 }
 
-fn fill_xof(k: usize, row: &[u8], out: &mut [u8])
-    requires { k < 64 }
+// n bytes of output for m bytes of the pattern.
+fn show_cut<W: Write>(writer: &mut W, m: usize, n: usize) -> io::Result<()>
+    requires { (m ≤ 337) × (n ≤ 337) }
 {
-    let end = k + 16;
-    let length = 7 * k;
-    let n = 11 * k;
-    if end <= row.len() {
-        if length <= row.len() {
-            if n <= out.len() {
-                xof::fill(
-                    xof::seed_of(&row[k..end]),
-                    (300 * k) as u16,
-                    &row[..length],
-                    &mut out[..n],
-                );
-            }
+    let mut message = [0; 337];
+    let mut out = [0; 337];
+    pattern(&mut message);
+    turboshake::turbo_shake128(&message[..m], 1, &mut out[..n]);
+    print(writer, &out[..n])
+}
+
+fn show_cuts<W: Write>(writer: &mut W) -> io::Result<()> {
+    for m in LENGTHS {
+        for n in LENGTHS {
+            show_cut(writer, m, n)?;
         }
     }
+    Ok(())
 }
 
 // Of XofTurboShake128: seed, binder, usage and length go by k.
 fn show_xof<W: Write>(writer: &mut W, k: usize) -> io::Result<()>
     requires { k < 64 }
 {
-    let mut row = [0u8; 448];
-    let mut out = [0u8; 700];
+    let mut row = [0; 448];
+    let mut out = [0; 700];
     pattern(&mut row);
-    fill_xof(k, &row, &mut out);
-    print_first(writer, &out, 11 * k)
+    let seed = xof::seed_of(&row[k..k + 16]);
+    xof::fill(seed, (300 * k) as u16, &row[..7 * k], &mut out[..11 * k]);
+    print(writer, &out[..11 * k])
 }
 
 fn show_xofs<W: Write>(writer: &mut W) -> io::Result<()> {
-    let mut k: usize = 0;
-    while k < 64 {
+    for k in 0..64 {
         show_xof(writer, k)?;
-        k += 1;
     }
     Ok(())
 }
 
 // Of XofTurboShake128: a usage by its name, and a binder of so many bytes of the pattern and 42 numbers.
-fn show_usage<W: Write>(writer: &mut W, usage: u16, before: usize) -> io::Result<()> {
-    let mut row = [0u8; 251];
+fn show_usage<W: Write>(writer: &mut W, usage: u16, before: usize) -> io::Result<()>
+    requires { before ≤ 251 }
+{
+    let mut row = [0; 251];
     pattern(&mut row);
-    let numbers = [0x0123_4567_89ab_cdefu64; 42];
-    let binder = absorb_part(xof::init([5; 16], usage), &row, before).absorb_words(&numbers);
+    let numbers = [0x0123_4567_89ab_cdef; 42];
+    let binder = xof::init([5; 16], usage)
+        .absorb(&row[..before])
+        .absorb_words(&numbers);
     show_next(writer, xof::into_seed_stream(binder))
 }
 

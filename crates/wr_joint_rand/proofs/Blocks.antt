@@ -43,12 +43,6 @@ after_more t e per s u v h is-u is-v =
     let sum : t * per + (e - t) * per ≡ (t + (e - t)) * per = omega arith in
     is-v ∙ ap (after ((e - t) * per)) is-u ∙ sym (after_add (t * per) ((e - t) * per) s) ∙ ap (λ (n : ℕ). after n s) (sum ∙ ap (λ (n : ℕ). n * per) same)
 
--- what stands before the rest of a row that was drawn into
-pub drawn_front : (count n : ℕ) (front rest : List ℕ) (s : Sponge) → n ≡ count → front ≡ drawn n s → take count (front ++ rest) ≡ drawn count s
-drawn_front count n front rest s h is =
-    let l : length front ≡ count = ap length is ∙ length_drawn n s ∙ h in
-    ap (λ (k : ℕ). take k (front ++ rest)) (sym l) ∙ take-append_seam front rest ∙ is ∙ ap (λ (k : ℕ). drawn k s) h
-
 -- tests that took their bytes from a buffer took those that were drawn into it
 pub from_buffer : (p per T : ℕ) (buffer xs rs : List ℕ) (s : Sponge) → T * per ≤ length buffer → take (T * per) buffer ≡ drawn (T * per) s → rs ≡ tests_of p per T buffer xs → rs ≡ tests_of p per T (drawn (T * per) s) xs
 unfolding tests_of
@@ -106,10 +100,6 @@ module _ (per n T t e : ℕ) (h : (0 < per) × (per ≤ n)) (more : t < T) (is :
   block =
       let some : 0 < n / per = (le-div_iff_mul-le h.0).1 (omega (arith, h)) in
       record { on = omega (arith, some, more, is); inside = omega (arith, is); room = (le-div_iff_mul-le h.0).0 (omega (arith, is)) }
-
--- as many tests have room in as long a row
-pub fewer : (per m n a b : ℕ) → m ≡ n → n * per ≤ a → a ≡ b → m * per ≤ b
-fewer per m n a b e h f = rw (e, ← f) h
 
 -- the bytes of one test are no more than those of all
 pub short_per : (T per n : ℕ) → 0 < T → T * per ≤ n → per ≤ n

@@ -52,6 +52,7 @@ fn run_blocks(gradient: &[u64], per: usize, stream: Sponge, buffer: &mut [u8], r
     let most = buffer.len() / per;
     let mut state = stream;
     let mut t = 0;
+    // A step takes as many tests as the buffer holds.
     while t < results.len() {
         let end = groups::at_most(t + most, results.len());
         state = draw(state, (end - t) * per, buffer);

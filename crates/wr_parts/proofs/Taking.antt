@@ -1,9 +1,9 @@
 -- Pieces of the shares, taken one after the other into the wraparound parts. Assumes nothing.
 use mathlib.Core.Path.{◌≡◌, refl, sym, ap, subst, ◌∙◌}
-use mathlib.Core.List.{List, [], ◌∷◌, ◌++◌, map, map-append}
-use Prim.Native.Nat.{ℕ, zero, suc, ◌+◌, ◌-◌, ◌≤◌, ◌<◌}
+use mathlib.Core.List.{List, [], ◌∷◌, ◌++◌, map-append, append-nil, append_assoc}
+use Prim.Native.Nat.{ℕ, ◌+◌, ◌≤◌}
 use native.Mathlib.Omega.{arith}
-use lib.ListN.{length, take, drop, replicate, length-append, length-drop, length-replicate}
+use lib.ListN.{length, take, drop, length-append, length-drop}
 use lib.Seq.{take-add, drop-drop, length-take-le}
 use lib.Ieee.{Float}
 use Rattle.field64.specs.Field.{sub_mod}
@@ -16,8 +16,6 @@ use Rattle.keccak.proofs.Rounds.{each_append}
 use Rattle.turboshake.specs.declared.Sponge.{Sponge}
 use Rattle.turboshake.specs.TurboShake.{bytes_of}
 use Rattle.turboshake.specs.Stream.{absorb_byte, absorb_all}
-use Rattle.sampler.specs.declared.Draws.{Draws}
-use Rattle.sampler.specs.Drawing.{DrewRow}
 use Rattle.joint_rand.proofs.Parts.{bytes_joined}
 use Rattle.wr_parts.specs.declared.Parts.{Parts}
 use Rattle.wr_parts.specs.Pieces.{helper_rest, Placed, TookPiece}
@@ -74,52 +72,41 @@ module _ (p : ℕ) where
   pub took_three : (a b c d : Parts) (xs ys zs : List ℕ) → TookPiece p a b xs → TookPiece p b c ys → TookPiece p c d zs → TookPiece p a d (xs ++ (ys ++ zs))
   took_three a b c d xs ys zs t u v = took_both a b d xs (ys ++ zs) t (took_both b c d ys zs u v)
 
-  -- what a piece's two rows have become
-  module _ (a : Parts) (r : Draws) (row helper : List ℕ) (same : length helper ≡ length row) (d : DrewRow p (helper_rest p a) r helper) where
-    helper_is : length row ≤ length (helper_rest p a) → helper ≡ take (length row) (helper_rest p a)
-    helper_is h = d.values (omega (arith, same, h)) ∙ ap (λ (k : ℕ). take k (helper_rest p a)) same
-
-    pub took_row : (row₁ : List ℕ) (l h : Sponge) → row₁ ≡ sub_rows p row helper → (l ≡ absorb_all (bytes_of row₁) a.leader) × (l.at < 168) → (h ≡ absorb_all (bytes_of helper) a.helper) × (h.at < 168)
-        → TookPiece p a (record { leader = l; helper = h; stream = r.stream; left = r.left }) row
-    took_row row₁ l h e f g = record {
-      leader = λ fits. f.0 ∙ ap (λ (r : List ℕ). absorb_all (bytes_of r) a.leader) (e ∙ ap (sub_rows p row) (helper_is fits));
-      helper = λ fits. g.0 ∙ ap (λ (r : List ℕ). absorb_all (bytes_of r) a.helper) (helper_is fits);
-      rest = d.rest ∙ ap (λ (k : ℕ). drop k (helper_rest p a)) same;
-      placed = record { leader = f.1; helper = g.1; stream = d.place };
-    }
-
--- a part of the row that is filled with 0 first
-pub part_long : (most n : ℕ) → n ≤ most → length (take n (replicate {A = ℕ} most 0)) ≡ n
-part_long most n h = length-take-le n (replicate {A = ℕ} most 0) (rw (length-replicate {A = ℕ} most 0) h)
-
 -- ---- the gradient's elements by pieces
 
 module _ (l f : ℕ) where
-  usable_take : (n : ℕ) (xs : List Float) → Usable l f xs → Usable l f (take n xs)
-  usable_take zero xs u = tt
-  usable_take (suc n) [] u = tt
-  usable_take (suc n) (x ∷ xs) u = (u.0, usable_take n xs u.1)
+  usable_front : (xs ys : List Float) → Usable l f (xs ++ ys) → Usable l f xs
+  usable_front [] ys u = tt
+  usable_front (x ∷ xs) ys u = (u.0, usable_front xs ys u.1)
 
-  usable_drop : (n : ℕ) (xs : List Float) → Usable l f xs → Usable l f (drop n xs)
-  usable_drop zero xs u = u
-  usable_drop (suc n) [] u = tt
-  usable_drop (suc n) (x ∷ xs) u = usable_drop n xs u.1
+  usable_back : (xs ys : List Float) → Usable l f (xs ++ ys) → Usable l f ys
+  usable_back [] ys u = u
+  usable_back (x ∷ xs) ys u = usable_back xs ys u.1
 
-  pub usable_part : (at n : ℕ) (xs : List Float) → Usable l f xs → Usable l f (take n (drop at xs))
-  usable_part at n xs u = usable_take n (drop at xs) (usable_drop at xs u)
-
--- none yet
-pub took_start : (p f : ℕ) (a : Parts) (g : List Float) → Placed a → TookPiece p a a (elements p f (take 0 g))
+elements_join : (p f : ℕ) (xs ys : List Float) → elements p f (xs ++ ys) ≡ elements p f xs ++ elements p f ys
 unfolding elements
-took_start p f a g h = took_none p a h
+elements_join p f xs ys = map-append (λ x. element p x f) xs ys
 
--- those of the coordinates up to at + n
-elements_more : (p f at n : ℕ) (g : List Float) → elements p f (take (at + n) g) ≡ elements p f (take at g) ++ elements p f (take n (drop at g))
-unfolding elements
-elements_more p f at n g = ap (map (λ x. element p x f)) (take-add at n g) ∙ map-append (λ x. element p x f) (take at g) (take n (drop at g))
+module _ (p f : ℕ) (a : Parts) (g : List Float) where
+  -- the first coordinates are done, and rest is left
+  abbrev pub Took : (b : Parts) (rest : List Float) → Type 0
+  Took b rest = (done : List Float) × (g ≡ done ++ rest) × TookPiece p a b (elements p f done)
 
-module _ (p f : ℕ) (a b c : Parts) (g : List Float) (at n : ℕ) where
-  pub took_next : TookPiece p a b (elements p f (take at g)) → TookPiece p b c (elements p f (take (at + n - at) (drop at g))) → TookPiece p a c (elements p f (take (at + n) g))
-  took_next d e =
-      let k : at + n - at ≡ n = omega arith in
-      subst (TookPiece p a c) (sym (elements_more p f at n g)) (took_both p a b c (elements p f (take at g)) (elements p f (take n (drop at g))) d (subst (λ (m : ℕ). TookPiece p b c (elements p f (take m (drop at g)))) k e))
+  pub took_start : Placed a → Took a g
+  unfolding elements
+  took_start h = ([], refl, took_none p a h)
+
+  module _ (b : Parts) (rest part next : List Float) (t : Took b rest) (cut : rest ≡ part ++ next) where
+    pub usable_piece : (l : ℕ) → Usable l f g → Usable l f part
+    usable_piece l u = usable_front l f part next (subst (Usable l f) cut (usable_back l f t.0 rest (subst (Usable l f) t.1 u)))
+
+    pub took_next : (c : Parts) → TookPiece p b c (elements p f part) → Took c next
+    took_next c d = (
+      t.0 ++ part,
+      t.1 ∙ ap (λ (r : List Float). t.0 ++ r) cut ∙ sym (append_assoc t.0 part next),
+      subst (TookPiece p a c) (sym (elements_join p f t.0 part)) (took_both p a b c (elements p f t.0) (elements p f part) t.2 d),
+    )
+
+  pub took_end : (b : Parts) (rest : List Float) → Took b rest → length rest ≡ 0 → TookPiece p a b (elements p f g)
+  took_end b [] t h = subst (λ (xs : List Float). TookPiece p a b (elements p f xs)) (sym (t.1 ∙ append-nil t.0)) t.2
+  took_end b (x ∷ xs) t h = absurd (omega arith)

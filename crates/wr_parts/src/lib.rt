@@ -136,12 +136,9 @@ fn take_all(
 {
     let mut row = [0u64; ROW];
     let mut parts = from;
-    let mut at = 0;
-    while at < gradient.len() {
-        let n = groups::at_most(gradient.len() - at, PIECE);
-        let end = at + n;
-        parts = take_elements(parts, &gradient[at..end], scale, frac_bits, &mut row[..n]);
-        at = end;
+    for piece in gradient.chunks(PIECE) {
+        let n = piece.len();
+        parts = take_elements(parts, piece, scale, frac_bits, &mut row[..n]);
     }
     parts = take_bits(parts, v, &mut row[..q]);
     parts = take_bits(parts, u, &mut row[..q]);

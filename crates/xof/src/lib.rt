@@ -28,8 +28,7 @@ const DOMAIN: u8 = 1;
 fn tag(usage: u16) -> [u8; 8]
     ensures { result ≡ length (dst algorithm_id usage) ∷ dst algorithm_id usage }
 {
-    let high = (usage / 256 % 256) as u8;
-    let low = (usage % 256) as u8;
+    let [high, low] = usage.to_be_bytes();
     [7, 1, 0xff, 0xff, 0xff, 0xff, high, low]
 }
 
@@ -38,10 +37,9 @@ pub fn seed_of(row: &[u8]) -> [u8; 16]
     requires { length row.now ≡ 16 }
     ensures { result ≡ row.now }
 {
-    [
-        row[0], row[1], row[2], row[3], row[4], row[5], row[6], row[7], row[8], row[9], row[10],
-        row[11], row[12], row[13], row[14], row[15],
-    ]
+    let mut seed = [0; 16];
+    seed.copy_from_slice(row);
+    seed
 }
 
 // The state after the tag and a seed. The binder is to follow, by any pieces, then `into_seed_stream`.

@@ -1,6 +1,6 @@
 -- `sampler::has_values` meets its contract. Assumes nothing.
 use mathlib.Core.Path.{◌≡◌}
-use Prim.Native.Nat.{◌-◌, ◌*◌, ◌<◌}
+use Prim.Native.Nat.{◌*◌, ◌<◌}
 use lib.ListN.{length}
 use lib.Dec.{leb}
 use Rattle.field64.specs.Field.{p64}

@@ -11,7 +11,7 @@ use Rattle.pine.proofs.Limits.{param_accepted}
 use Rattle.pine.proofs.Sizes.{derivable_64, sizes_64}
 use Rattle.rows.specs.Rows.{row_rule}
 use Rattle.sampler.specs.Sampler.{draw_limit}
-use Rattle.sampler.proofs.Sampling.{inputs_refused, rows_refused, draws_refused, enough, accepted_with}
+use Rattle.sampler.proofs.Sampling.{inputs_refused, rows_refused, draws_refused, accepted_with}
 use Rattle.sampler.proofs.sample.Lts as lts
 use Rattle.sampler.proofs.sample.Reads as reads
 use Rattle.sampler.proofs.sample.Tie as tie
@@ -63,9 +63,6 @@ returns-then-early-ne0 c = rows_refused Field64 c.args.param c.args.stream.now c
 
 pub returns-then-late-ne0 : goal.returns-then-late-ne0
 returns-then-late-ne0 c = draws_refused Field64 c.args.param c.args.stream.now c.args.share.now (met c.before.before.before.before.before.before.before.before.before.before.before) _ (rows_are c.before.before.before.before.before.before.before) (right c.before.before.before.before) _ c.count_values.ensures _ c.refuse_if-late.ensures c.if-late-ne0.true
-
-pub take_values-requires : goal.take_values-requires
-take_values-requires c = enough Field64 c.args.param c.args.stream.now c.args.share.now (met c.before.before.before.before.before.before.before.before.before.before.before.before) _ (rows_are c.before.before.before.before.before.before.before.before) (right c.before.before.before.before.before) _ c.count_values.ensures _ c.refuse_if-late.ensures c.if-late-ne0.false
 
 pub returns : goal.returns
 returns c = accepted_with Field64 c.args.param c.args.stream.now c.args.share.now (met c.before.before.before.before.before.before.before.before.before.before.before.before.before.before.before) _ (rows_are c.before.before.before.before.before.before.before.before.before.before.before) (right c.before.before.before.before.before.before.before.before) _ c.count_values.ensures _ c.refuse_if-late.ensures c.if-late-ne0.false _ c.take_values.ensures

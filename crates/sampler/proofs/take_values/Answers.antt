@@ -1,15 +1,14 @@
 -- `sampler::take_values` meets its contract. Assumes nothing.
 use mathlib.Core.Path.{◌≡◌, refl, ap, ◌∙◌}
-use Prim.Native.Nat.{ℕ, ◌+◌, ◌-◌, ◌*◌, ◌/◌, ◌≤◌, ◌<◌}
+use Prim.Native.Nat.{ℕ, ◌+◌, ◌-◌, ◌*◌, ◌/◌, ◌≤◌}
 use native.Mathlib.Omega.{arith}
 use lib.ListN.{length, take, drop}
 use borrow.Rule.Slice.PartMut.{same_len_mid}
 use Rattle.field64.specs.Field.{p64}
 use Rattle.groups.proofs.Swapped.{part_long}
-use Rattle.octets.proofs.Pasted.{part_long as bytes_long}
 use Rattle.sampler.specs.Sampler.{values_of}
 use Rattle.sampler.proofs.Values.{values_length}
-use Rattle.sampler.proofs.Keeping.{begins_none, begins_next, some_left, begins_all}
+use Rattle.sampler.proofs.Keeping.{begins_none, begins_next, begins_all}
 use Rattle.sampler.proofs.take_values.Lts as lts
 use Rattle.sampler.proofs.take_values.Reads as reads
 use Rattle.sampler.proofs.take_values.Tie as tie
@@ -31,49 +30,8 @@ mid_of c =
 few : (c : After-read_and_keep-count) → c.read_and_keep-count.result ≤ c.at_most-n.result
 few c = omega (arith, c.read_and_keep-count.ensures.1, mid_of c.before.before.before, values_length p64 (length (take (c.loop-count.count + c.at_most-n.result - c.loop-count.count) (drop c.loop-count.count c.loop-count.row))) (take (8 * c.loop-count.used + 8 * c.at_most-n.result - 8 * c.loop-count.used) (drop (8 * c.loop-count.used) c.args.bytes.now)))
 
--- some values are left
-some_of : (c : After-at_most-n) → c.loop-count.used < length c.args.bytes.now / 8
-some_of c =
-    let l = c.loop-count in
-    some_left p64 c.args.bytes.now (length c.args.bytes.now / 8) l.used l.count l.row l.invariant.1 l.invariant.0.1.0 c.loop-count-test.true (omega (arith, c.requires, l.invariant.0.0))
-
 pub loop-count-init : goal.loop-count-init
 loop-count-init c = ((refl, (omega arith, omega arith)), begins_none p64 c.args.bytes.now c.args.row.now)
-
-pub overflow_mul-at : goal.overflow_mul-at
-overflow_mul-at c = omega (arith, c.loop-count.invariant.0)
-
-pub overflow_mul-end : goal.overflow_mul-end
-overflow_mul-end c = omega (arith, c.loop-count.invariant.0, c.at_most-n.ensures)
-
-pub overflow_add-end : goal.overflow_add-end
-overflow_add-end c = omega (arith, c.loop-count.invariant.0, c.at_most-n.ensures)
-
-pub overflow_add-stop : goal.overflow_add-stop
-overflow_add-stop c = omega (arith, c.loop-count.invariant.0, c.at_most-n.ensures)
-
-pub slice_bounds-read_and_keep-count : goal.slice_bounds-read_and_keep-count
-slice_bounds-read_and_keep-count c = omega arith
-
-pub slice_bounds-read_and_keep-end : goal.slice_bounds-read_and_keep-end
-slice_bounds-read_and_keep-end c = omega (arith, c.loop-count.invariant.0, c.at_most-n.ensures)
-
-pub slice_bounds-read_and_keep-end-in-loop-count : goal.slice_bounds-read_and_keep-end-in-loop-count
-slice_bounds-read_and_keep-end-in-loop-count c = omega (arith, c.loop-count.invariant.0, c.at_most-n.ensures)
-
-pub read_and_keep-count-requires : goal.read_and_keep-count-requires
-read_and_keep-count-requires c =
-    let l = c.loop-count in
-    bytes_long c.args.bytes.now (8 * l.used) (8 * c.at_most-n.result) (omega (arith, l.invariant.0, c.at_most-n.ensures)) ∙ omega (arith, mid_of c.before.before.before)
-
-pub overflow_add-count : goal.overflow_add-count
-overflow_add-count c = omega (arith, few c.before.before.before, c.loop-count.invariant.0, c.at_most-n.ensures)
-
-pub overflow_add-used : goal.overflow_add-used
-overflow_add-used c = omega (arith, c.loop-count.invariant.0, c.at_most-n.ensures)
-
-pub loop-count-smaller : goal.loop-count-smaller
-loop-count-smaller c = omega (arith, some_of c.before.before.before.before.before.before, c.at_most-n.ensures, c.loop-count-test.true)
 
 pub loop-count-preserved : goal.loop-count-preserved
 loop-count-preserved c =
@@ -83,9 +41,6 @@ loop-count-preserved c =
       (same_len_mid l.count (l.count + m - l.count) l.row r.new.row r.auto.row ∙ l.invariant.0.0, (omega (arith, l.invariant.0, c.at_most-n.ensures), omega (arith, few c.before.before.before, same_len_mid l.count (l.count + m - l.count) l.row r.new.row r.auto.row, l.invariant.0, c.at_most-n.ensures))),
       begins_next p64 c.args.bytes.now l.used m _ l.count r.result l.row r.new.row _ l.invariant.0.1.1 (r.auto.row ∙ mid_of c.before.before.before.before.before.before) (mid_of c.before.before.before.before.before.before) l.invariant.1 r.ensures,
     )
-
-pub shape_of-row : goal.shape_of-row
-shape_of-row c = c.loop-count.invariant.0.0
 
 pub returns : goal.returns
 returns c =

@@ -4,21 +4,9 @@ use lib.ListN.{length}
 use Rattle.field64.specs.Field.{p64}
 use Rattle.flp.specs.Encode.{elements}
 use Rattle.turboshake.proofs.Shake.{bytes_all}
-use Rattle.wr_joint_rand.proofs.Blocks.{few_bytes, from_buffer}
+use Rattle.wr_joint_rand.proofs.Blocks.{from_buffer}
 use Rattle.wr_joint_rand.proofs.Seeds.{results_are}
 use Rattle.seeded_gradient.proofs.norm_from_seed.Goals as goal
-
-pub overflow_mul-count : goal.overflow_mul-count
-overflow_mul-count c =
-    record { fits = omega (arith, few_bytes (length c.args.results.now) c.args.per c.requires.seed_len.1.1 c.requires.per_nonzero.0.1) }
-
-pub norm_and_tests-requires : goal.norm_and_tests-requires
-norm_and_tests-requires c =
-    record {
-      usable = c.requires.usable.0;
-      scale_value = c.requires.usable.1;
-      per_in_bounds = (omega (arith, c.if-count-le1024.true, c.draw.auto.buffer), (c.requires.per_nonzero.1, omega (arith, c.requires.per_nonzero.0.1)));
-    }
 
 pub returns-then-count-le1024 : goal.returns-then-count-le1024
 returns-then-count-le1024 c =

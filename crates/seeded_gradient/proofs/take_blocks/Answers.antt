@@ -1,5 +1,6 @@
 -- `seeded_gradient::take_blocks` meets its contract. Assumes nothing.
-use mathlib.Core.Path.{◌≡◌, refl, sym, ap, subst, ◌∙◌}
+use mathlib.Core.Path.{◌≡◌, sym, ap, subst, ◌∙◌}
+use mathlib.Core.Logic.{◌⊎◌}
 use Prim.Native.Nat.{ℕ, ◌+◌, ◌-◌, ◌*◌, ◌≤◌, ◌<◌}
 use native.Mathlib.Omega.{arith}
 use borrow.Rule.Slice.PartMut.{same_len_mid}
@@ -8,9 +9,7 @@ use lib.Seq.{length_front}
 use Rattle.field64.specs.Field.{p64}
 use Rattle.flp.specs.Encode.{elements}
 use Rattle.turboshake.specs.Stream.{after}
-use Rattle.groups.proofs.Swapped.{part_long}
-use Rattle.groups.proofs.Swapped.{row_long}
-use Rattle.seeded_gradient.proofs.Blocks.{Small}
+use Rattle.groups.proofs.Swapped.{part_long, row_long}
 use Rattle.wr_joint_rand.proofs.Blocks.{Done, first_done, next_drawn, all, after_more}
 use Rattle.seeded_gradient.proofs.take_blocks.Lts as lts
 use Rattle.seeded_gradient.proofs.take_blocks.Reads as reads
@@ -22,6 +21,10 @@ After-block_len = lts.After-block_len2 tie.the-claims reads.Pre reads.Post goal.
 
 abbrev At-loop-t : Type 0
 At-loop-t = lts.At-loop tie.the-claims reads.Pre reads.Post goal.the-invariant-loop-t goal.the-decreases-loop-t tie.handed_clauses
+
+-- a block that fits the buffer, or goes by tiles
+abbrev Small : (per n : ℕ) → Type 0
+Small per n = (n * per ≤ 8192) ⊎ (n ≤ 50)
 
 -- a block: the tests from t on, up to e, of T
 record Block (per t e T : ℕ) : Type 0 where
@@ -40,71 +43,6 @@ block_of c = block _ _ _ _ c.loop-t-test.true c.block_len.ensures
 -- the results have been as many all along
 many : (c : At-loop-t) → length c.loop-t.results ≡ length c.args.results.now
 many c = c.loop-t.invariant.1 ∙ length_front c.args.results.now c.take_block-taken.new.results (c.block_len-first.result - 0) c.take_block-taken.auto.results
-
-pub block_len-first-requires : goal.block_len-first-requires
-block_len-first-requires c = (c.requires.per_nonzero.0.0, c.requires.at_bound.1.0)
-
-pub slice_bounds-take_block-count : goal.slice_bounds-take_block-count
-slice_bounds-take_block-count c = omega arith
-
-pub slice_bounds-take_block-start : goal.slice_bounds-take_block-start
-slice_bounds-take_block-start c = omega arith
-
-pub slice_bounds-take_block-end : goal.slice_bounds-take_block-end
-slice_bounds-take_block-end c = omega (arith, c.block_len-first.ensures.0)
-
-pub take_block-taken-requires : goal.take_block-taken-requires
-take_block-taken-requires c =
-    let b = c.block_len-first in
-    let long = row_long b.result c.args.results.now b.ensures.0.1 in
-    record {
-      usable = c.requires.usable;
-      per_nonzero = c.requires.per_nonzero;
-      at_bound = (c.requires.at_bound.0, (omega (arith, long, b.ensures.0.0), omega (arith, long, b.ensures.0.1, c.requires.at_bound.1.1)));
-      fact = subst (Small c.args.per) (sym long) b.ensures.1;
-    }
-
-pub loop-t-init : goal.loop-t-init
-loop-t-init c =
-    let r = c.take_block-taken in
-    let b = c.block_len-first in
-    (omega (arith, b.ensures.0.1, length_front c.args.results.now r.new.results (b.result - 0) r.auto.results), refl, r.ensures.next_value.1, (λ u e d. (e, d)))
-
-pub overflow_sub-results : goal.overflow_sub-results
-overflow_sub-results c = omega (arith, c.loop-t-test.true)
-
-pub block_len-requires : goal.block_len-requires
-block_len-requires c = (c.requires.per_nonzero.0.0, omega (arith, c.loop-t-test.true))
-
-pub overflow_add-end : goal.overflow_add-end
-overflow_add-end c = record { fits = omega (arith, (block_of c.before).inside, (block_of c.before).on, many c.before.before.before, c.requires.at_bound.1.1) }
-
-pub offset_bounds-results-t : goal.offset_bounds-results-t
-offset_bounds-results-t c = record { fits = omega (arith, (block_of c.before).inside, (block_of c.before).on, many c.before.before.before, c.requires.at_bound.1.1) }
-
-pub slice_bounds-take_block-count-in-loop-t : goal.slice_bounds-take_block-count-in-loop-t
-slice_bounds-take_block-count-in-loop-t c = omega arith
-
-pub slice_bounds-take_block-start-in-loop-t : goal.slice_bounds-take_block-start-in-loop-t
-slice_bounds-take_block-start-in-loop-t c = omega arith
-
-pub slice_bounds-take_block-end-in-loop-t : goal.slice_bounds-take_block-end-in-loop-t
-slice_bounds-take_block-end-in-loop-t c = (block_of c.before).inside
-
-pub take_block-more-requires : goal.take_block-more-requires
-take_block-more-requires c =
-    let l = c.loop-t in
-    let b = block_of c.before.before in
-    let long = part_long l.t (l.t + c.block_len.result) l.results (omega arith) b.inside in
-    record {
-      usable = c.requires.usable;
-      per_nonzero = c.requires.per_nonzero;
-      at_bound = (l.invariant.2, (omega (arith, long, b.on), omega (arith, long, b.inside, many c.before.before.before.before, c.requires.at_bound.1.1)));
-      fact = subst (Small c.args.per) (sym long) b.small;
-    }
-
-pub loop-t-smaller : goal.loop-t-smaller
-loop-t-smaller c = omega (arith, (block_of c.before.before.before.before.before.before).on, (block_of c.before.before.before.before.before.before).inside, c.loop-t.invariant.1)
 
 pub loop-t-preserved : goal.loop-t-preserved
 loop-t-preserved c =
@@ -125,9 +63,6 @@ loop-t-preserved c =
             next_drawn p64 per xs u l.t e _ l.results _ _ l.state (h, b.inside) (r.auto.results ∙ long) long d.0 d.1 r.ensures.results_after,
           )),
     )
-
-pub shape_of-results : goal.shape_of-results
-shape_of-results c = many c.before.before.before
 
 pub returns : goal.returns
 returns c =

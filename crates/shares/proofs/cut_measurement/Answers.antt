@@ -2,7 +2,6 @@
 use mathlib.Core.Path.{◌≡◌, ap, ◌∙◌}
 use mathlib.Core.List.{List, ◌++◌}
 use Prim.Native.Nat.{ℕ}
-use native.Mathlib.Omega.{arith}
 use lib.ListN.{length}
 use Rattle.field64.specs.Field.{p64}
 use Rattle.sampler.specs.Sampler.{sampled}
@@ -21,14 +20,6 @@ drawn_is : (c : After-draw_row) → c.draw_row.new.row ≡ sampled p64 (length c
 drawn_is c =
     let n = length c.args.helper.now in
     first_drawn p64 n (helper_stream n c.args.seeds.now) c.requires.seeds_value c.helper_stream.result (c.helper_stream.ensures.0 n) _ _ c.draw_row.auto.row c.draw_row.ensures
-
-pub draw_row-requires : goal.draw_row-requires
-draw_row-requires c = c.helper_stream.ensures.1
-
-pub sub_rows-requires : goal.sub_rows-requires
-sub_rows-requires c =
-    let d = c.draw_row in
-    (omega (arith, d.auto.row, c.requires.below.1), (c.requires.below.0, d.ensures.below))
 
 pub returns : goal.returns
 returns c =

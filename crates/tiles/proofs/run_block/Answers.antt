@@ -22,23 +22,6 @@ run_tiles-norm-requires c =
       ready = rw f.ensures (starts_ready c.args.per (length c.args.results.now) c.args.stream c.requires.at_bound.0);
     }
 
-pub overflow_sub-from : goal.overflow_sub-from
-overflow_sub-from c = c.requires.at_bound.1
-
-pub overflow_mul-from : goal.overflow_mul-from
-overflow_mul-from c = record { fits = omega (arith, c.requires.block_rows.0.0) }
-
-pub overflow_add-to : goal.overflow_add-to
-overflow_add-to c = record { fits = omega (arith, c.requires.block_rows.0.0) }
-
-pub offset_bounds-states-from : goal.offset_bounds-states-from
-offset_bounds-states-from c = record { fits = omega (arith, c.requires.block_rows.0.0) }
-
-pub slice_bounds-load-end : goal.slice_bounds-load-end
-slice_bounds-load-end c =
-    let rows = c.requires.block_rows.0 in
-    omega (arith, rows.0, rows.1.0, c.requires.at_bound.1, c.run_tiles-norm.auto.states, c.find_starts.auto.states)
-
 pub returns : goal.returns
 returns c =
     let r = c.run_tiles-norm in

@@ -33,12 +33,6 @@ loop-j-init c =
     let starts = states_of (length z.new.row) c.args.states.now in
     (omega arith, refl, refl, refl, refl, refl, groups_start p64 c.args.per (tile_of c.args.per starts) (elements p64 c.args.frac_bits c.args.gradient.now) _ c.args.results.now z.ensures, after_none starts, (omega arith, norm_start c.args.frac_bits (words_of c.none-norm.result) c.args.gradient.now))
 
-pub group_from-group-requires : goal.group_from-group-requires
-group_from-group-requires c = (c.loop-j-test.true, (omega arith, omega (arith, c.requires.per_bound.0)))
-
-pub overflow_sub-n : goal.overflow_sub-n
-overflow_sub-n c = omega (arith, fits c.before.before)
-
 pub draw_tile-requires : goal.draw_tile-requires
 draw_tile-requires c =
     let l = c.loop-j in
@@ -49,18 +43,6 @@ draw_tile-requires c =
       count_bound = (omega (arith, z.auto.row, rows.0), (f.few, roomy (length c.args.results.now) _ _ _ _ z.auto.row rows.0 f.few l.invariant.2 rows.1.1));
       count_in_bounds = (omega (arith, z.auto.row, rows.0, l.invariant.1, rows.1.0), rw l.invariant.7 (all_ready l.j (states_of (length z.new.row) c.args.states.now) (subst (λ (T : ℕ). Ready (states_of T c.args.states.now)) (sym z.auto.row) c.requires.ready)));
     }
-
-pub offset_bounds-gradient-first : goal.offset_bounds-gradient-first
-offset_bounds-gradient-first c = record { fits = omega (arith, fits c.before.before.before.before.before.before.before.before.before, c.requires.per_bound) }
-
-pub slice_bounds-add_block-count : goal.slice_bounds-add_block-count
-slice_bounds-add_block-count c = omega (arith, fits c.before.before.before.before.before.before.before.before.before)
-
-pub slice_bounds-add_block-start : goal.slice_bounds-add_block-start
-slice_bounds-add_block-start c = omega (arith, fits c.before.before.before.before.before.before.before.before.before)
-
-pub slice_bounds-add_block-end : goal.slice_bounds-add_block-end
-slice_bounds-add_block-end c = omega (arith, fits c.before.before.before.before.before.before.before.before.before)
 
 pub add_block-norm-requires : goal.add_block-norm-requires
 add_block-norm-requires c =
@@ -84,9 +66,6 @@ add_block-norm-requires c =
       spare_rows = (omega (arith, l.invariant.3, rows.1.0), omega (arith, l.invariant.4, rows.1.1));
       below = (groups_below p64 per _ (elements p64 f xs) l.results l.j _ (lit< tt) l.invariant.6, top_fits l.norm.top none.result.top l.j r.end (4 * (r.end - l.j)) _ per l.invariant.8.0 on (fits c.before.before.before.before.before.before.before.before.before.before.before.before.before).inside (none_room none.result per none.ensures short) refl (le_refl _));
     }
-
-pub loop-j-smaller : goal.loop-j-smaller
-loop-j-smaller c = omega (arith, fits c.before.before.before.before.before.before.before.before.before.before.before.before.before.before.before.before.before.before.before.before)
 
 pub loop-j-preserved : goal.loop-j-preserved
 loop-j-preserved c =
@@ -120,21 +99,6 @@ loop-j-preserved c =
       d.ensures.states_after ∙ ap (all_after n) l.invariant.7 ∙ after_more j n starts ∙ ap (λ (k : ℕ). all_after k starts) on,
       (top_grown l.norm.top a.result.top none.result.top j r.end (4 * n) l.invariant.8.0 a.ensures.result_value.1 h.0 (le_refl _), norm_next f (words_of none.result) (words_of l.norm) (words_of a.result) (4 * j) (4 * r.end) xs _ further cut l.invariant.8.1 a.ensures.result_value.0),
     )
-
-pub shape_of-states : goal.shape_of-states
-shape_of-states c = c.loop-j.invariant.1
-
-pub shape_of-buffer : goal.shape_of-buffer
-shape_of-buffer c = c.loop-j.invariant.2
-
-pub shape_of-row : goal.shape_of-row
-shape_of-row c = c.loop-j.invariant.3
-
-pub shape_of-spare : goal.shape_of-spare
-shape_of-spare c = c.loop-j.invariant.4
-
-pub shape_of-results : goal.shape_of-results
-shape_of-results c = c.loop-j.invariant.5 ∙ c.zero_row.auto.row
 
 pub returns : goal.returns
 returns c =

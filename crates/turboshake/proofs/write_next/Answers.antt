@@ -1,15 +1,7 @@
 -- `turboshake::write_next` meets its contract. Assumes nothing.
-use mathlib.Core.Path.{◌≡◌, subst}
-use Prim.Native.Nat.{ℕ}
 use native.Mathlib.Omega.{arith}
-use Rattle.turboshake.specs.Stream.{sponge}
-use Rattle.turboshake.proofs.Drawn.{Wrote, wrote_lane, wrote_byte}
+use Rattle.turboshake.proofs.Drawn.{wrote_lane, wrote_byte}
 use Rattle.turboshake.proofs.write_next.Goals as goal
-
-pub returns-then-room-ge-RATE : goal.returns-then-room-ge-RATE
-returns-then-room-ge-RATE c =
-    let z : 0 ≡ c.args.at = omega arith in
-    ((omega arith, omega arith), (omega arith, subst (λ (k : ℕ). Wrote c.args.out.now c.write_block.new.out c.args.i 168 (sponge c.args.lanes.now k)) z c.write_block.ensures))
 
 pub returns-then-room-ge8 : goal.returns-then-room-ge8
 returns-then-room-ge8 c =

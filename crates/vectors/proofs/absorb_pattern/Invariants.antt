@@ -1,9 +1,6 @@
 -- A sponge stays within its block.
-use Rattle.std.proofs.Common.{◌+◌, ◌-◌, ◌<◌}
+use Rattle.std.proofs.Common.{◌<◌}
 use Rattle.vectors.proofs.absorb_pattern.Given as goal
 
-abbrev pub invariant-loop-left : goal.invariant-loop-left
-invariant-loop-left l = l.s.at < 168
-
-abbrev pub decreases-loop-left : goal.decreases-loop-left
-decreases-loop-left l = l.left + 1 - 251
+abbrev pub invariant-loop : goal.invariant-loop
+invariant-loop l = l.sponge.at < 168

@@ -1,14 +1,11 @@
 -- `wr_parts::take_elements` meets its contract. Assumes nothing.
 use mathlib.Core.Path.{◌≡◌, sym, subst, ◌∙◌}
-use mathlib.Core.List.{List}
-use Prim.Native.Nat.{ℕ}
 use native.Mathlib.Omega.{arith}
 use lib.ListN.{length}
 use lib.Dec.{lit<}
 use Rattle.field64.specs.Field.{p64}
 use Rattle.rows.specs.Rows.{Below}
 use Rattle.flp.proofs.Gradient.{elements_below}
-use Rattle.wr_parts.specs.Pieces.{TookPiece}
 use Rattle.wr_parts.proofs.take_elements.Goals as goal
 
 pub take_piece-requires : goal.take_piece-requires
@@ -19,6 +16,3 @@ take_piece-requires c =
       placed = c.requires.placed;
       below = (subst (Below p64) (sym w.ensures) (elements_below p64 c.args.frac_bits (lit< tt) c.args.part.now), omega (arith, long, c.requires.row_len.1));
     }
-
-pub returns : goal.returns
-returns c = subst (λ (xs : List ℕ). TookPiece p64 c.args.from c.take_piece.result xs) c.write_elements.ensures c.take_piece.ensures

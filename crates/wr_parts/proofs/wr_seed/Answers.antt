@@ -109,15 +109,6 @@ overflow_add-wanted c = record { fits = omega (arith, within c.before.before.bef
 pub overflow_sub-wanted : goal.overflow_sub-wanted
 overflow_sub-wanted c = omega (arith, within c.before.before.before.before.before.before.before)
 
-pub has_values-enough-requires : goal.has_values-enough-requires
-has_values-enough-requires c = c.take_all-parts.ensures.placed.stream
-
-pub into_seed-leader-requires : goal.into_seed-leader-requires
-into_seed-leader-requires c = c.take_all-parts.ensures.placed.leader
-
-pub into_seed-helper-requires : goal.into_seed-helper-requires
-into_seed-helper-requires c = c.take_all-parts.ensures.placed.helper
-
 pub returns : goal.returns
 returns c =
     let i = c.args.param in

@@ -7,8 +7,7 @@ use Rattle.xof.proofs.Frame.{parts_absorbed}
 use Rattle.xof.proofs.init.Goals as goal
 
 pub returns : goal.returns
-returns c =
-    let s = c in (
-      parts_absorbed (7 ∷ dst algorithm_id s.args.usage) s.args.seed c.absorb.result _ (c.absorb.ensures.0 ∙ ap₂ absorb_all c.tag-tag.ensures c.new.ensures.0) c.absorb-2.ensures.0,
-      c.absorb-2.ensures.1,
-    )
+returns c = (
+  parts_absorbed (7 ∷ dst algorithm_id c.args.usage) c.args.seed c.absorb.result _ (c.absorb.ensures.0 ∙ ap₂ absorb_all c.tag-tag.ensures c.new.ensures.0) c.absorb-2.ensures.0,
+  c.absorb-2.ensures.1,
+)

@@ -1,2 +1,0 @@
--- What the proofs of the functions cite: `Blocks` of how many tests a block takes.
-mod Blocks
