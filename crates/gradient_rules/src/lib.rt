@@ -72,10 +72,10 @@ fn search_results(results: &[u64], bound: u64) -> Answer
     requires { bound ≤ p64 }
     ensures { result ≡ every_rule p64 bound 0 results.now }
 {
-    match results
+    let found = results
         .iter()
-        .position(|&r| !measurement::in_range(r, bound))
-    {
+        .position(|&r| !measurement::in_range(r, bound));
+    match found {
         Some(t) => Answer {
             number: rules::WR_TEST,
             place: t as u64,

@@ -9,8 +9,8 @@ use Rattle.gradient_rules.proofs.search_results.Goals as goal
 
 pub returns-in-Some : goal.returns-in-Some
 returns-in-Some c =
-    every_missed p64 c.args.bound c.args.results.now _ (position_from_yields_List (λ r. not (in_range p64 c.args.bound r)) _ _ c.position.result c.position.ensures.ran (YieldsList-from_slice c.args.results.now c.iter.ensures.rest) (λ x b q k. search (rules, tests))) _ c.in-Some.is
+    every_missed p64 c.args.bound c.args.results.now _ (position_from_yields_List (λ r. not (in_range p64 c.args.bound r)) _ _ c.position-found.result c.position-found.ensures.ran (YieldsList-from_slice c.args.results.now c.iter.ensures.rest) (λ x b q k. search (rules, tests))) _ c.in-Some.is
 
 pub returns-in-None : goal.returns-in-None
 returns-in-None c =
-    c.accepted.ensures ∙ every_met p64 c.args.bound c.args.results.now _ (position_from_yields_List (λ r. not (in_range p64 c.args.bound r)) _ _ c.position.result c.position.ensures.ran (YieldsList-from_slice c.args.results.now c.iter.ensures.rest) (λ x b q k. search (rules, tests))) c.in-None.is
+    c.accepted.ensures ∙ every_met p64 c.args.bound c.args.results.now _ (position_from_yields_List (λ r. not (in_range p64 c.args.bound r)) _ _ c.position-found.result c.position-found.ensures.ran (YieldsList-from_slice c.args.results.now c.iter.ensures.rest) (λ x b q k. search (rules, tests))) c.in-None.is
