@@ -19,16 +19,14 @@ After-element = lts.After-element tie.the-claims reads.Pre reads.Post goal.the-i
 -- a result stands at t
 inside : (l : In-loop-t) → l.loop-t.t < length (elements_of l.args.results.now)
 inside l =
-    let s = l in
-    over_inside (narrowed s.args.bound) (class_of s.args.bound) s.args.results.now s.args.row.now s.requires.results_len l.loop-t.row l.loop-t.t l.loop-t.invariant.1 (omega arith)
+    over_inside (narrowed l.args.bound) (class_of l.args.bound) l.args.results.now l.args.row.now l.requires.results_len l.loop-t.row l.loop-t.t l.loop-t.invariant.1 (omega arith)
 
 -- an element, and where it lies
 here : (c : After-element) → (number_of c.element.result < p128) × (get_or c.loop-t.row c.loop-t.t 0 ≡ class_of c.args.bound (number_of c.element.result))
-here c =
-    let s = c in (
-      rw c.element.ensures (below_at p128 (elements_of s.args.results.now) s.requires.below.0 c.loop-t.t (inside c.before.before)),
-      over_at (narrowed s.args.bound) (class_of s.args.bound) s.args.results.now s.args.row.now s.requires.results_len c.loop-t.row c.loop-t.t c.loop-t.invariant.1 (omega arith) ∙ ap (class_of s.args.bound) (sym c.element.ensures),
-    )
+here c = (
+  rw c.element.ensures (below_at p128 (elements_of c.args.results.now) c.requires.below.0 c.loop-t.t (inside c.before.before)),
+  over_at (narrowed c.args.bound) (class_of c.args.bound) c.args.results.now c.args.row.now c.requires.results_len c.loop-t.row c.loop-t.t c.loop-t.invariant.1 (omega arith) ∙ ap (class_of c.args.bound) (sym c.element.ensures),
+)
 
 pub narrow_result-requires : goal.narrow_result-requires
 narrow_result-requires c =
