@@ -18,16 +18,14 @@ fn search(gradient: &[f64], scale: f64, frac_bits: u64) -> Answer
     requires { scale ≡ power frac_bits }
     ensures { result ≡ coordinates_rule floor_limit64 frac_bits 0 gradient.now }
 {
-    let mut i = 0;
-    while i < gradient.len() {
-        let answer = doubles::check_coordinate(gradient[i], scale, frac_bits);
+    for (i, &x) in gradient.iter().enumerate() {
+        let answer = doubles::check_coordinate(x, scale, frac_bits);
         if answer.number != 0 {
             return Answer {
                 number: answer.number,
                 place: i as u64,
             };
         }
-        i += 1;
     }
     Answer::accepted()
 }
@@ -38,10 +36,8 @@ fn count_refused(gradient: &[f64], scale: f64, frac_bits: u64) -> u64
     ensures { result ≡ 0 → accepted ≡ coordinates_rule floor_limit64 frac_bits 0 gradient.now }
 {
     let mut count = 0;
-    let mut i = 0;
-    while i < gradient.len() {
-        count += doubles::refused(gradient[i], scale, frac_bits);
-        i += 1;
+    for &x in gradient {
+        count += doubles::refused(x, scale, frac_bits);
     }
     count
 }
@@ -76,17 +72,16 @@ fn search_results(results: &[u64], bound: u64) -> Answer
     requires { bound ≤ p64 }
     ensures { result ≡ every_rule p64 bound 0 results.now }
 {
-    let mut t = 0;
-    while t < results.len() {
-        if !measurement::in_range(results[t], bound) {
-            return Answer {
-                number: rules::WR_TEST,
-                place: t as u64,
-            };
-        }
-        t += 1;
+    let found = results
+        .iter()
+        .position(|&r| !measurement::in_range(r, bound));
+    match found {
+        Some(t) => Answer {
+            number: rules::WR_TEST,
+            place: t as u64,
+        },
+        None => Answer::accepted(),
     }
-    Answer::accepted()
 }
 
 // How many results are in range, with no branch on one.
@@ -95,10 +90,8 @@ fn count_in_range(results: &[u64], bound: u64) -> u64
     ensures { result ≡ count_in_range p64 bound results.now }
 {
     let mut count = 0;
-    let mut t = 0;
-    while t < results.len() {
-        count += measurement::in_range(results[t], bound) as u64;
-        t += 1;
+    for &r in results {
+        count += measurement::in_range(r, bound) as u64;
     }
     count
 }

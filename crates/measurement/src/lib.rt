@@ -20,10 +20,8 @@ pub fn write_elements(gradient: &[f64], scale: f64, frac_bits: u64, row: &mut [u
     requires row_len { length row.old ≡ length gradient.now }
     ensures { row.new ≡ elements p64 frac_bits gradient.now }
 {
-    let mut k = 0;
-    while k < row.len() {
+    for k in 0..row.len() {
         row[k] = doubles::element_of(gradient[k], scale, frac_bits);
-        k += 1;
     }
 }
 
@@ -32,11 +30,9 @@ pub fn write_bits(value: u64, row: &mut [u64])
     ensures { row.new ≡ bits (length row.old) value }
 {
     let mut rest = value;
-    let mut i = 0;
-    while i < row.len() {
-        row[i] = rest % 2;
+    for x in row.iter_mut() {
+        *x = rest % 2;
         rest = rest / 2;
-        i += 1;
     }
 }
 
@@ -82,9 +78,7 @@ fn write_tests(w: usize, bound: u64, successes: u64, results: &[u64], row: &mut 
 {
     let mut left = successes;
     let mut start = 0;
-    let mut t = 0;
-    while t < results.len() {
-        let r = results[t];
+    for &r in results {
         let hit = in_range(r, bound);
         let value = number_of(r, bound, hit);
         let success = success_bit(hit, left);
@@ -92,7 +86,6 @@ fn write_tests(w: usize, bound: u64, successes: u64, results: &[u64], row: &mut 
         write_test(w, value, success, &mut row[start..end]);
         left -= success;
         start = end;
-        t += 1;
     }
 }
 
@@ -154,9 +147,5 @@ pub fn copy_row(from: &[u64], to: &mut [u64])
     requires { length to.old ≡ length from.now }
     ensures { to.new ≡ from.now }
 {
-    let mut i = 0;
-    while i < to.len() {
-        to[i] = from[i];
-        i += 1;
-    }
+    to.copy_from_slice(from);
 }

@@ -1,7 +1,7 @@
 -- A loop that writes φ of each element of a row of two words to an element. Assumes nothing.
-use Rattle.std.proofs.Common.{◌≡◌, ℕ, zero, suc, ◌+◌, ◌*◌, ◌<◌, ◌≤◌, List, [], ◌∷◌, map, length, get_or, set, sym, refl, ap, ◌∙◌, arith}
+use Rattle.std.proofs.Common.{◌≡◌, ℕ, zero, suc, ◌+◌, ◌*◌, ◌<◌, List, [], ◌∷◌, map, length, get_or, set, sym, refl, ap, ◌∙◌, arith}
 use lib.ListN.{length-map, get_or-map}
-use Rattle.rows.proofs.Walk.{Walking, walked_at, walked_end, walking_next}
+use Rattle.rows.proofs.Walk.{Walking, walked_at, walking_next}
 use Rattle.field128.specs.Field128.{elements_of}
 use Rattle.field128.proofs.Pairs.{whole_twice}
 
@@ -23,9 +23,6 @@ module _ (φ ψ : ℕ → ℕ) (rs d : List ℕ) (same : length rs ≡ 2 * lengt
   written : length rs ≡ 2 * length (map ψ (elements_of rs))
   written = same ∙ ap (λ (n : ℕ). 2 * n) (sym (long ψ rs d same))
 
-  pub over_begin : (a : List ℕ) → a ≡ map ψ (elements_of rs) → Over a 0
-  over_begin a e = (omega arith, ap length e, e)
-
   pub over_inside : (a : List ℕ) (t : ℕ) → Over a t → t < length a → t < length (elements_of rs)
   over_inside a t inv h = omega (arith, length-map (elements_of rs) ψ)
 
@@ -43,9 +40,3 @@ module _ (φ ψ : ℕ → ℕ) (rs d : List ℕ) (same : length rs ≡ 2 * lengt
 
   pub over_turn : (a : List ℕ) (t x y : ℕ) → Over a t → t < length a → x ≡ get_or (elements_of rs) t 0 → y ≡ φ x → Over (set a t y) (t + 1)
   over_turn a t x y = turn φ rs (map ψ (elements_of rs)) written a t x y
-
-  pub over_length : (a : List ℕ) (t : ℕ) → Over a t → length a ≡ length d
-  over_length a t inv = inv.1 ∙ long ψ rs d same
-
-  pub over_end : (a : List ℕ) (t : ℕ) → Over a t → length a ≤ t → a ≡ map φ (elements_of rs)
-  over_end a t inv h = inv.2 ∙ walked_end (map φ (elements_of rs)) (map ψ (elements_of rs)) t (long φ rs (map ψ (elements_of rs)) written) (omega arith)

@@ -1,10 +1,9 @@
 -- A number of two words beside a bound of one: bits tell whether it is above, and where it is not, its low word is the number. Assumes nothing.
-use Rattle.std.proofs.Common.{◌≡◌, ℕ, zero, suc, ◌+◌, ◌-◌, ◌*◌, ◌/◌, ◌%◌, ◌^◌, ◌<◌, ◌≤◌, Bool, true, false, cond, eqb, ltb, sym, refl, ap, ◌∙◌, le_trans, lt_of_le_of_lt, le_of_lt, arith, lit<, ltb-false, ltb-true, le-ltb, lt-ltb, le-leb}
+use Rattle.std.proofs.Common.{◌≡◌, ℕ, zero, suc, ◌+◌, ◌-◌, ◌*◌, ◌/◌, ◌%◌, ◌^◌, ◌<◌, ◌≤◌, Bool, true, false, cond, ltb, sym, refl, ap, ◌∙◌, le_trans, lt_of_le_of_lt, arith, ltb-false, ltb-true, le-ltb, lt-ltb, le-leb}
 use lib.Bits.{bit_or, or_shr, or_lt}
 use borrow.Author.Tests.{lt-leb}
-use Rattle.field64.specs.Field.{p64}
 use Rattle.field128.specs.Field128.{p128, number}
-use Rattle.narrow.specs.Narrow.{flag_above, class_of, Sorted, sorted_result, narrowed, narrowed_norm}
+use Rattle.narrow.specs.Narrow.{flag_above, class_of, Sorted, sorted_result, narrowed}
 
 -- a high word that is not 0
 large : (l h : ℕ) → (h ≡ 0 → ⊥) → 2 ^ 64 ≤ number l h
@@ -105,56 +104,6 @@ flag_fits b n f e = rw e (go (ltb b n))
     go true = omega arith
     go false = omega arith
 
--- ---- a result by the digits of where it lies
-
--- a product with a digit, and with 1 less it
-pub times_fits : (f y : ℕ) → f ≤ 1 → f * y ≤ y
-times_fits zero y h = omega arith
-times_fits (suc zero) y h = omega arith
-times_fits (suc (suc f)) y h = absurd (omega arith)
-
-pub rest_fits : (f y : ℕ) → f ≤ 1 → (1 - f) * y ≤ y
-rest_fits zero y h = omega arith
-rest_fits (suc zero) y h = omega arith
-rest_fits (suc (suc f)) y h = absurd (omega arith)
-
--- one of two words
-pub either_fits : (f x y : ℕ) → f ≤ 1 → x < 2 ^ 64 → y < 2 ^ 64 → (1 - f) * x + f * y < 2 ^ 64
-either_fits zero x y h i j = omega arith
-either_fits (suc zero) x y h i j = omega arith
-either_fits (suc (suc f)) x y h i j = absurd (omega arith)
-
-pub negative_word : (f l : ℕ) → f ≤ 1 → f * 2 ^ 63 + (1 - f) * p64 - (1 - f) * l < 2 ^ 64
-negative_word zero l h = omega arith
-negative_word (suc zero) l h = omega arith
-negative_word (suc (suc f)) l h = absurd (omega arith)
-
--- c of two words is p - r
-module _ (l h r : ℕ) (ec : number l h ≡ p128 - r) where
-  pub negative_fits : (f : ℕ) → f ≤ 1 → (f ≡ 0 → p128 - r < 2 ^ 48) → (1 - f) * l ≤ f * 2 ^ 63 + (1 - f) * p64
-  negative_fits zero k n =
-      let s : number l h < 2 ^ 48 = rw ec (n refl) in
-      omega arith
-  negative_fits (suc zero) k n = omega arith
-  negative_fits (suc (suc f)) k n = absurd (omega arith)
-
-  pub negative_is : (f : ℕ) → f ≤ 1 → (f ≡ 0 → p128 - r < 2 ^ 48) → f * 2 ^ 63 + (1 - f) * p64 - (1 - f) * l ≡ cond (eqb f 0) (p64 - (p128 - r)) (2 ^ 63)
-  negative_is zero k n =
-      let s : number l h < 2 ^ 48 = rw ec (n refl) in
-      let z : h ≡ 0 = no_high l h (2 ^ 48) (lit< tt) (le_of_lt s) in
-      rw (← ec, alone l h z) (omega arith)
-  negative_is (suc zero) k n = omega arith
-  negative_is (suc (suc f)) k n = absurd (omega arith)
-
-pub result_is : (l h f g y : ℕ) → Sorted (number l h) f g → y ≡ cond (eqb f 0) (p64 - (p128 - number l h)) (2 ^ 63) → (1 - g) * l + g * y ≡ sorted_result (number l h) f g
-result_is l h f zero y s e =
-    let z : h ≡ 0 = no_high l h (2 ^ 48) (lit< tt) (s.positive refl) in
-    rw (alone l h z) (omega arith)
-result_is l h f (suc zero) y s e =
-    let o : (1 - 1) * l + 1 * y ≡ y = omega arith in
-    o ∙ e
-result_is l h f (suc (suc g)) y s e = absurd (omega (arith, s.high_digit))
-
 -- ---- the digits
 
 turned : (p r b : ℕ) → r < p → ltb (p - r) b ≡ ltb p (r + b)
@@ -218,10 +167,3 @@ sorted_by b r k h i j e = rw (e, class_low b r h i j, class_high b r h i j) (cla
 
 pub narrowed_by : (b r k : ℕ) → 0 < b → b ≤ 2 ^ 48 → r < p128 → k ≡ class_of b r → sorted_result r (k % 4294967296) (k / 4294967296) ≡ narrowed b r
 narrowed_by b r k h i j e = rw (e, class_low b r h i j, class_high b r h i j) (class_result b r h i j)
-
--- a norm
-pub norm_taken : (l h : ℕ) → l < 2 ^ 64 → h ≡ 0 → l ≡ narrowed_norm (number l h)
-norm_taken l h k e = rw (alone l h e, lt-ltb l (2 ^ 64) k)
-
-pub norm_left : (l h : ℕ) → (h ≡ 0 → ⊥) → 2 ^ 64 - 1 ≡ narrowed_norm (number l h)
-norm_left l h n = rw (le-ltb (number l h) (2 ^ 64) (large l h n))

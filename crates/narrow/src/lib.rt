@@ -48,10 +48,8 @@ fn write_classes(results: &[u64], bound: u64, row: &mut [u64])
     requires below { Below p128 (elements_of results.now) × ((0 < bound) × (bound ≤ 2 ^ 48)) }
     ensures { row.new ≡ map (class_of bound) (elements_of results.now) }
 {
-    let mut t = 0;
-    while t < row.len() {
+    for t in 0..row.len() {
         row[t] = class_of(rows128::element(results, t), bound);
-        t += 1;
     }
 }
 
@@ -63,13 +61,11 @@ pub fn narrow_results(results: &[u64], bound: u64, row: &mut [u64])
     ensures { row.new ≡ map (narrowed bound) (elements_of results.now) }
 {
     write_classes(results, bound, row);
-    let mut t = 0;
-    while t < row.len() {
+    for t in 0..row.len() {
         let class = row[t];
         let f = class % 0x1_0000_0000;
         let g = class / 0x1_0000_0000;
         row[t] = narrow_result(rows128::element(results, t), f, g);
-        t += 1;
     }
 }
 

@@ -2,7 +2,7 @@
 use mathlib.Core.Path.{◌≡◌, refl, ap, ◌∙◌}
 use mathlib.Core.Bool.{Bool, true, false, cond}
 use mathlib.Core.List.{List, []}
-use Prim.Native.Nat.{ℕ, ◌+◌, ◌-◌, ◌≤◌}
+use Prim.Native.Nat.{ℕ, ◌+◌, ◌≤◌}
 use native.Mathlib.Omega.{arith}
 use lib.ListN.{length, take, drop}
 use lib.Dec.{eqb}
@@ -19,12 +19,6 @@ use Rattle.parts.specs.declared.Part.{Part}
 use Rattle.parts.specs.declared.Verdict.{Verdict}
 use Rattle.parts.specs.Places.{part_at, named, verdict_of}
 use Rattle.parts.proofs.Vectors.{part_met}
-
--- the elements between two ends
-pub between_is : (s n : ℕ) (row : List ℕ) → take (s + n - s) (drop s row) ≡ take n (drop s row)
-between_is s n row =
-    let e : s + n - s ≡ n = omega arith in
-    rw e
 
 module _ (i : PineParam) (full : List ℕ) where
   abbrev rules : Answer

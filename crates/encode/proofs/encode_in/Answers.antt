@@ -81,10 +81,6 @@ pub returns-then-early-ne0 : goal.returns-then-early-ne0
 returns-then-early-ne0 c =
     early_refused Field64 c.args.param c.args.gradient.now (bytes c.before.before.before.before.before.before.before.before.before.before.before.before.before.before.before) c.args.measurement.now c.args.results.now _ (early c.before.before.before) c.if-early-ne0.true
 
-pub overflow_add-per : goal.overflow_add-per
-overflow_add-per c =
-    omega (arith, (ready Field64 c.args.param c.args.gradient.now (bytes c.before.before.before.before.before.before.before.before.before.before.before.before.before.before.before) c.args.measurement.now c.args.results.now (met c.before)).gradient_long, (ready Field64 c.args.param c.args.gradient.now (bytes c.before.before.before.before.before.before.before.before.before.before.before.before.before.before.before) c.args.measurement.now c.args.results.now (met c.before)).dimension)
-
 pub norm_and_tests-norm-requires : goal.norm_and_tests-norm-requires
 norm_and_tests-norm-requires c =
     let n = c.new-pine in

@@ -1,7 +1,7 @@
 -- `encode::finish` meets its contract. Assumes nothing.
 use native.Mathlib.Omega.{arith}
 use native.Mathlib.Nat.{mod-lt}
-use mathlib.Core.Path.{sym, subst, ◌∙◌}
+use mathlib.Core.Path.{sym, subst}
 use Prim.Native.Nat.{ℕ}
 use lib.Dec.{lit<}
 use Rattle.sums.specs.Unreduced.{words_of}
@@ -32,10 +32,6 @@ write_measurement-requires c =
       below = (c.requires.below.0, (b.1.0, b.0));
       v_lt_p64 = (rw c.reduced-v.ensures (mod-lt (words_of c.args.norm) (lit< tt)), b.1.1);
     }
-
-pub copy_row-requires : goal.copy_row-requires
-copy_row-requires c =
-    c.requires.below.1.1.1.1 ∙ sym c.requires.below.1.1.0
 
 pub returns : goal.returns
 returns c =

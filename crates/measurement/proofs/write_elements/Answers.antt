@@ -1,17 +1,12 @@
 -- `measurement::write_elements` meets its contract. Assumes nothing.
-use mathlib.Core.Path.{refl, ◌∙◌}
-use Prim.Native.Nat.{◌-◌}
+use mathlib.Core.Path.{◌∙◌}
 use native.Mathlib.Omega.{arith}
-use borrow.Author.Rules.{rules}
 use lib.ListN.{length-set}
 use lib.Ieee.{nan}
 use Rattle.doubles.specs.Doubles.{floor_limit64}
 use Rattle.measurement.proofs.Usable.{usable_at}
 use Rattle.measurement.proofs.Elements.{one_more, all_written}
 use Rattle.measurement.proofs.write_elements.Goals as goal
-
-pub loop-k-init : goal.loop-k-init
-loop-k-init c = (search rules, refl, refl)
 
 pub element_of-requires : goal.element_of-requires
 element_of-requires c =
@@ -22,11 +17,8 @@ element_of-requires c =
 
 pub loop-k-preserved : goal.loop-k-preserved
 loop-k-preserved c =
-    (omega arith, length-set c.loop-k.row c.loop-k.k c.element_of.result ∙ c.loop-k.invariant.1, one_more c.args.frac_bits c.args.gradient.now c.args.row.now c.requires.row_len c.loop-k.row c.loop-k.k c.element_of.result c.loop-k.invariant.2 (omega arith) c.element_of.ensures)
-
-pub shape_of-row : goal.shape_of-row
-shape_of-row c = c.loop-k.invariant.1
+    (length-set c.loop-k.row c.loop-k.k c.element_of.result ∙ c.loop-k.invariant.0, one_more c.args.frac_bits c.args.gradient.now c.args.row.now c.requires.row_len c.loop-k.row c.loop-k.k c.element_of.result c.loop-k.invariant.1 (omega arith) c.element_of.ensures)
 
 pub returns : goal.returns
 returns c =
-    all_written c.args.frac_bits c.args.gradient.now c.args.row.now c.requires.row_len c.loop-k.row c.loop-k.k c.loop-k.invariant.2 (omega arith)
+    all_written c.args.frac_bits c.args.gradient.now c.args.row.now c.requires.row_len c.loop-k.row c.loop-k.k c.loop-k.invariant.1 (omega arith)

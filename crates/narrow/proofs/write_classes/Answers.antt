@@ -1,5 +1,5 @@
 -- `narrow::write_classes` meets its contract. Assumes nothing.
-use Rattle.std.proofs.Common.{◌-◌, ◌<◌, length, refl, ◌∙◌, arith, rules}
+use Rattle.std.proofs.Common.{◌<◌, length, ◌∙◌, arith}
 use Rattle.rows.proofs.Elements.{below_at}
 use Rattle.rows.proofs.Walk.{walked_end}
 use Rattle.field128.specs.Field128.{p128, elements_of}
@@ -17,9 +17,6 @@ In-loop-t = lts.In-loop tie.the-claims reads.Pre reads.Post goal.the-invariant-l
 inside : (c : In-loop-t) → c.loop-t.t < length (elements_of c.args.results.now)
 inside c = omega (arith, many (class_of c.args.bound) c.args.results.now c.args.row.now c.requires.results_len, c.loop-t.invariant.1)
 
-pub loop-t-init : goal.loop-t-init
-loop-t-init c = (search rules, refl, refl)
-
 pub element-requires : goal.element-requires
 element-requires c = inside c.before
 
@@ -30,9 +27,6 @@ class_of-requires c =
 pub loop-t-preserved : goal.loop-t-preserved
 loop-t-preserved c =
     turn (class_of c.args.bound) c.args.results.now c.args.row.now c.requires.results_len c.loop-t.row c.loop-t.t _ _ c.loop-t.invariant (omega arith) c.element.ensures c.class_of.ensures
-
-pub shape_of-row : goal.shape_of-row
-shape_of-row c = c.loop-t.invariant.1
 
 pub returns : goal.returns
 returns c =

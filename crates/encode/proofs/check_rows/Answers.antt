@@ -1,5 +1,0 @@
--- `encode::check_rows` meets its contract. Assumes nothing.
-use Rattle.encode.proofs.check_rows.Goals as goal
-
-pub returns : goal.returns
-returns c = rw (c.or-4.ensures, c.or-3.ensures, c.or-2.ensures, c.or.ensures, c.check_gradient_len-gradient_len.ensures, c.check_coordinates-coordinates.ensures, c.check_len-row_4.ensures, c.check_len-row_3.ensures)
