@@ -6,8 +6,8 @@ use Prim.Native.Nat.{ℕ, zero, suc, ◌+◌, ◌*◌, ◌-◌, ◌/◌, ◌%◌
 use native.Mathlib.Nat.{mod_self, mod-lt, mod-mod, zero-mod, add-mod-mod, le_of_lt}
 use native.Mathlib.Numerals.{add-one}
 use native.Mathlib.Omega.{arith}
-use lib.ListN.{length, get_or, take, drop, set, length-take}
-use lib.Seq.{get_or-drop, drop-drop, drop-cons, get_or-set_same, get_or-set_other}
+use lib.ListN.{length, get_or, take, drop, length-take}
+use lib.Seq.{get_or-drop, drop-drop, drop-cons}
 use lib.Dec.{ltb}
 use borrow.Author.Tests.{ltb-true, ltb-false}
 use Rattle.field64.specs.Field.{add_mod, sub_mod}
@@ -177,21 +177,6 @@ module _ (p count : ℕ) (xs t : List ℕ) (positive : 0 < p) (f : Tables p coun
       (λ i. one i ∷ group_law per j n (drop per s) row h (below_drop 256 per s g) i)
 
 -- ---- the loops
-
--- k entries were written from start on, and what stood before start is as it was
-abbrev pub Written : (t t₀ entries : List ℕ) (start k : ℕ) → Type 0
-Written t t₀ entries start k = ((j : ℕ) → j < k → get_or t (start + j) 0 ≡ get_or entries j 0) × ((i : ℕ) → i < start → get_or t i 0 ≡ get_or t₀ i 0)
-
-pub written_next : (t t₀ entries : List ℕ) (start k : ℕ) → start + k < length t → Written t t₀ entries start k → Written (set t (start + k) (get_or entries k 0)) t₀ entries start (k + 1)
-written_next t t₀ entries start k h w = (λ j g. go j g (ltb j k) refl, λ i g. get_or-set_other t (start + k) i (get_or entries k 0) 0 (λ e. absurd (omega (arith, e))) ∙ w.1 i g)
-  where
-    go : (j : ℕ) → j < k + 1 → (b : Bool) → ltb j k ≡ b → get_or (set t (start + k) (get_or entries k 0)) (start + j) 0 ≡ get_or entries j 0
-    go j g true e =
-        let l : j < k = ltb-true j k e in
-        get_or-set_other t (start + k) (start + j) (get_or entries k 0) 0 (λ q. absurd (omega (arith, q, l))) ∙ w.0 j l
-    go j g false e =
-        let q : j ≡ k = omega (arith, ltb-false j k e) in
-        rw q (get_or-set_same t (start + k) (get_or entries k 0) 0 h)
 
 -- one table more
 pub tables_next : (p i : ℕ) (xs t t₀ : List ℕ) (a b : ℕ) → a ≡ get_or xs (2 * i) 0 → b ≡ get_or xs (2 * i + 1) 0 → ((k : ℕ) → k < 16 → Entry p a b k (get_or t (16 * i + k) 0)) → ((n : ℕ) → n < 16 * i → get_or t n 0 ≡ get_or t₀ n 0) → Tables p i xs t₀ → Tables p (i + 1) xs t
