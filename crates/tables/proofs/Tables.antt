@@ -190,15 +190,9 @@ tables_next p i xs t t₀ a b ea eb f g w m h k l = go (ltb m i) refl
         let q : m ≡ i = omega (arith, ltb-false m i e) in
         rw (q, ← ea, ← eb) (f k l)
 
-pub step_carries : (k h h' : ℕ) → h ≤ 2 * k → h' ≤ h + 2 → h' ≤ 2 * (k + 1)
-step_carries k h h' e f = omega arith
-
 -- byte k of a test, all being the entries of all its bytes
 pub entries_step : (t bytes : List ℕ) (k : ℕ) → k < length bytes → entries_of t (32 * k) (drop k bytes) ≡ entries_at t (32 * k) (get_or bytes k 0) + entries_of t (32 * (k + 1)) (drop (k + 1) bytes)
 entries_step t bytes k h =
     let d : drop k bytes ≡ get_or bytes k 0 ∷ drop (k + 1) bytes = rw (add-one, drop-cons bytes k 0) in
     let on : 32 * k + 32 ≡ 32 * (k + 1) = omega arith in
     ap (entries_of t (32 * k)) d ∙ ap (λ (n : ℕ). entries_at t (32 * k) (get_or bytes k 0) + entries_of t n (drop (k + 1) bytes)) on
-
-pub bytes_next : (t bytes : List ℕ) (k all s s' : ℕ) → k < length bytes → s + entries_of t (32 * k) (drop k bytes) ≡ all → s' ≡ s + entries_at t (32 * k) (get_or bytes k 0) → s' + entries_of t (32 * (k + 1)) (drop (k + 1) bytes) ≡ all
-bytes_next t bytes k all s s' h e f = omega (arith, entries_step t bytes k h)
