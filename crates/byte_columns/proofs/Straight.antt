@@ -2,7 +2,7 @@
 use mathlib.Core.Path.{◌≡◌, refl, sym, ap, ◌∙◌}
 use mathlib.Core.List.{List, [], ◌∷◌}
 use Prim.Native.Nat.{ℕ, zero, suc, ◌+◌, ◌*◌, ◌-◌, ◌/◌, ◌%◌, ◌≤◌, ◌<◌}
-use native.Mathlib.Nat.{add-zero, add-mod-mod, mod-eq_of_lt}
+use native.Mathlib.Nat.{add-zero, mod-eq_of_lt}
 use native.Mathlib.Omega.{arith}
 use lib.ListN.{length, get_or, take, drop, set}
 use lib.Dec.{lit<}
@@ -33,10 +33,6 @@ zero_subtracts pair x e =
 pub others_skip : (pair x : ℕ) → (pair ≡ 0 → ⊥) → (pair ≡ 3 → ⊥) → 0 % p64 ≡ weighed p64 pair x
 unfolding weighed
 others_skip pair x f g = rw (ne_eqb pair 0 f, ne_eqb pair 3 g) refl
-
--- the sum with it
-pub plus_weighed : (pair x y N M : ℕ) → M ≡ N + y → y % p64 ≡ weighed p64 pair x → M % p64 ≡ (N + weighed p64 pair x) % p64
-plus_weighed pair x y N M e f = ap (λ (n : ℕ). n % p64) e ∙ sym (add-mod-mod N y p64) ∙ ap (λ (n : ℕ). (N + n) % p64) f
 
 -- ---- the elements of a test, as its pairs have them
 

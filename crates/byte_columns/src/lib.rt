@@ -67,14 +67,13 @@ fn test_of(xs: &[u64], bytes: &[u8]) -> u64
     requires { Below p64 xs.now × ((length xs.now ≤ 256) × (length xs.now ≤ 4 * length bytes.now)) }
     ensures { result ≡ test_of p64 xs.now bytes.now }
 {
+    let whole = xs.len() / 4;
     let mut sum = Total::none();
-    let mut j = 0;
-    while j < xs.len() / 4 {
+    for j in 0..whole {
         sum = plus_byte(sum, xs, bytes, j);
-        j += 1;
     }
-    if 4 * j < xs.len() {
-        return plus_last(sum, xs, bytes, j).reduced();
+    if 4 * whole < xs.len() {
+        return plus_last(sum, xs, bytes, whole).reduced();
     }
     sum.reduced()
 }
@@ -85,11 +84,9 @@ pub fn run_block(gradient: &[u64], per: usize, stream: &[u8], results: &mut [u64
     requires below { Below p64 gradient.now }
     ensures { results.new ≡ tests_of p64 per (length results.old) stream.now gradient.now }
 {
-    let mut t = 0;
-    while t < results.len() {
+    for t in 0..results.len() {
         let start = t * per;
         let end = start + per;
         results[t] = test_of(gradient, &stream[start..end]);
-        t += 1;
     }
 }

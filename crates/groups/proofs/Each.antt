@@ -1,7 +1,7 @@
 -- A loop over all the tests, whatever is made of the bytes of each: result by result, as a row whose elements are replaced from the front. Assumes nothing.
 use mathlib.Core.Path.{◌≡◌, refl, sym, ap, ◌∙◌}
 use mathlib.Core.List.{List, [], ◌∷◌}
-use Prim.Native.Nat.{ℕ, zero, suc, ◌+◌, ◌-◌, ◌*◌, ◌^◌, ◌≤◌, ◌<◌}
+use Prim.Native.Nat.{ℕ, zero, suc, ◌+◌, ◌-◌, ◌*◌, ◌≤◌, ◌<◌}
 use native.Mathlib.Nat.{suc-mul, mul-le-mul_right}
 use native.Mathlib.Omega.{arith}
 use lib.ListN.{length, get_or, take, drop, set, length-drop}
@@ -61,9 +61,3 @@ module _ (f : (bytes : List ℕ) (r : ℕ) → ℕ) (per j n : ℕ) where
 -- the next of n steps
 pub step_le : (k n : ℕ) → k < n → k + 1 ≤ n
 step_le k n h = omega arith
-
-pub step_fits : (k n : ℕ) → k < n → n < 2 ^ 64 → k + 1 < 2 ^ 64
-step_fits k n h l = omega arith
-
-pub step_less : (k n : ℕ) → k < n → n - (k + 1) < n - k
-step_less k n h = omega arith

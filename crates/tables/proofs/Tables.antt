@@ -6,8 +6,8 @@ use Prim.Native.Nat.{ℕ, zero, suc, ◌+◌, ◌*◌, ◌-◌, ◌/◌, ◌%◌
 use native.Mathlib.Nat.{mod_self, mod-lt, mod-mod, zero-mod, add-mod-mod, le_of_lt}
 use native.Mathlib.Numerals.{add-one}
 use native.Mathlib.Omega.{arith}
-use lib.ListN.{length, get_or, take, drop, set, length-take}
-use lib.Seq.{get_or-drop, drop-drop, drop-cons, get_or-set_same, get_or-set_other}
+use lib.ListN.{length, get_or, take, drop, length-take}
+use lib.Seq.{get_or-drop, drop-drop, drop-cons}
 use lib.Dec.{ltb}
 use borrow.Author.Tests.{ltb-true, ltb-false}
 use Rattle.field64.specs.Field.{add_mod, sub_mod}
@@ -178,21 +178,6 @@ module _ (p count : ℕ) (xs t : List ℕ) (positive : 0 < p) (f : Tables p coun
 
 -- ---- the loops
 
--- k entries were written from start on, and what stood before start is as it was
-abbrev pub Written : (t t₀ entries : List ℕ) (start k : ℕ) → Type 0
-Written t t₀ entries start k = ((j : ℕ) → j < k → get_or t (start + j) 0 ≡ get_or entries j 0) × ((i : ℕ) → i < start → get_or t i 0 ≡ get_or t₀ i 0)
-
-pub written_next : (t t₀ entries : List ℕ) (start k : ℕ) → start + k < length t → Written t t₀ entries start k → Written (set t (start + k) (get_or entries k 0)) t₀ entries start (k + 1)
-written_next t t₀ entries start k h w = (λ j g. go j g (ltb j k) refl, λ i g. get_or-set_other t (start + k) i (get_or entries k 0) 0 (λ e. absurd (omega (arith, e))) ∙ w.1 i g)
-  where
-    go : (j : ℕ) → j < k + 1 → (b : Bool) → ltb j k ≡ b → get_or (set t (start + k) (get_or entries k 0)) (start + j) 0 ≡ get_or entries j 0
-    go j g true e =
-        let l : j < k = ltb-true j k e in
-        get_or-set_other t (start + k) (start + j) (get_or entries k 0) 0 (λ q. absurd (omega (arith, q, l))) ∙ w.0 j l
-    go j g false e =
-        let q : j ≡ k = omega (arith, ltb-false j k e) in
-        rw q (get_or-set_same t (start + k) (get_or entries k 0) 0 h)
-
 -- one table more
 pub tables_next : (p i : ℕ) (xs t t₀ : List ℕ) (a b : ℕ) → a ≡ get_or xs (2 * i) 0 → b ≡ get_or xs (2 * i + 1) 0 → ((k : ℕ) → k < 16 → Entry p a b k (get_or t (16 * i + k) 0)) → ((n : ℕ) → n < 16 * i → get_or t n 0 ≡ get_or t₀ n 0) → Tables p i xs t₀ → Tables p (i + 1) xs t
 tables_next p i xs t t₀ a b ea eb f g w m h k l = go (ltb m i) refl
@@ -205,15 +190,9 @@ tables_next p i xs t t₀ a b ea eb f g w m h k l = go (ltb m i) refl
         let q : m ≡ i = omega (arith, ltb-false m i e) in
         rw (q, ← ea, ← eb) (f k l)
 
-pub step_carries : (k h h' : ℕ) → h ≤ 2 * k → h' ≤ h + 2 → h' ≤ 2 * (k + 1)
-step_carries k h h' e f = omega arith
-
 -- byte k of a test, all being the entries of all its bytes
 pub entries_step : (t bytes : List ℕ) (k : ℕ) → k < length bytes → entries_of t (32 * k) (drop k bytes) ≡ entries_at t (32 * k) (get_or bytes k 0) + entries_of t (32 * (k + 1)) (drop (k + 1) bytes)
 entries_step t bytes k h =
     let d : drop k bytes ≡ get_or bytes k 0 ∷ drop (k + 1) bytes = rw (add-one, drop-cons bytes k 0) in
     let on : 32 * k + 32 ≡ 32 * (k + 1) = omega arith in
     ap (entries_of t (32 * k)) d ∙ ap (λ (n : ℕ). entries_at t (32 * k) (get_or bytes k 0) + entries_of t n (drop (k + 1) bytes)) on
-
-pub bytes_next : (t bytes : List ℕ) (k all s s' : ℕ) → k < length bytes → s + entries_of t (32 * k) (drop k bytes) ≡ all → s' ≡ s + entries_at t (32 * k) (get_or bytes k 0) → s' + entries_of t (32 * (k + 1)) (drop (k + 1) bytes) ≡ all
-bytes_next t bytes k all s s' h e f = omega (arith, entries_step t bytes k h)

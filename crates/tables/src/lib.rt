@@ -33,11 +33,7 @@ pub fn write_entries(entries: [u64; 16], start: usize, tables: &mut [u64])
     ensures by_index { (k : ℕ) → k < 16 → get_or tables.new (start + k) 0 ≡ get_or entries k 0 }
     ensures by_index_2 { (i : ℕ) → i < start → get_or tables.new i 0 ≡ get_or tables.old i 0 }
 {
-    let mut k = 0;
-    while k < 16 {
-        tables[start + k] = entries[k];
-        k += 1;
-    }
+    tables[start..start + 16].copy_from_slice(&entries);
 }
 
 // Writes the table of two coordinates from start on.
@@ -62,12 +58,10 @@ fn write_tables(xs: &[u64], count: usize, tables: &mut [u64])
     requires { Below p64 xs.now × (16 * count ≤ length tables.old) }
     ensures { Tables p64 count xs.now tables.new }
 {
-    let mut i = 0;
-    while i < count {
+    for i in 0..count {
         let a = at(xs, 2 * i);
         let b = at(xs, 2 * i + 1);
         write_table(a, b, 16 * i, tables);
-        i += 1;
     }
 }
 
@@ -88,10 +82,8 @@ fn less_bytes(r: u64, bytes: &[u8], tables: &[u64]) -> u64
     ensures { result ≡ less_entries p64 tables.now bytes.now r }
 {
     let mut sum = Total::none();
-    let mut k = 0;
-    while k < bytes.len() {
-        sum = plus_byte(sum, bytes[k], 32 * k, tables);
-        k += 1;
+    for (k, &byte) in bytes.iter().enumerate() {
+        sum = plus_byte(sum, byte, 32 * k, tables);
     }
     field64::sub(r, sum.reduced())
 }
@@ -102,12 +94,10 @@ fn less_group(tables: &[u64], per: usize, j: usize, n: usize, stream: &[u8], res
     requires below { Below p64 results.old }
     ensures { results.new ≡ less_group p64 tables.now per j n stream.now results.old }
 {
-    let mut t = 0;
-    while t < results.len() {
+    for t in 0..results.len() {
         let start = t * per + j;
         let end = start + n;
         results[t] = less_bytes(results[t], &stream[start..end], tables);
-        t += 1;
     }
 }
 

@@ -19,7 +19,6 @@ use Rattle.rows.proofs.Elements.{below_at, below_take}
 use Rattle.rows.proofs.Walk.{Walking, walking_next}
 use Rattle.flp.specs.Tests.{pairs, weighed, weigh, test_of}
 use Rattle.weights.specs.Weights.{weight, weights_of, PairWeights, written_at}
-use Rattle.groups.proofs.Halves.{pair_0, pair_1, pair_3}
 
 pub length_pairs : (bytes : List ℕ) → length (pairs bytes) ≡ 4 * length bytes
 unfolding pairs
@@ -155,13 +154,6 @@ pairs_table (suc (suc (suc (suc (suc (suc (suc (suc (suc (suc (suc (suc (suc zer
 pairs_table (suc (suc (suc (suc (suc (suc (suc (suc (suc (suc (suc (suc (suc (suc zero)))))))))))))) h = (refl, refl)
 pairs_table (suc (suc (suc (suc (suc (suc (suc (suc (suc (suc (suc (suc (suc (suc (suc zero))))))))))))))) h = (refl, refl)
 pairs_table (suc (suc (suc (suc (suc (suc (suc (suc (suc (suc (suc (suc (suc (suc (suc (suc h)))))))))))))))) l = absurd (omega arith)
-
--- a byte, by its halves' entries
-pub byte_written : (t : List ℕ) (b start : ℕ) (row : List ℕ) → PairWeights t → b < 256 → set (set (set (set row start (get_or t (3 * (b % 16)) 0)) (start + 1) (get_or t (3 * (b % 16) + 1) 0)) (start + 2) (get_or t (3 * (b / 16)) 0)) (start + 3) (get_or t (3 * (b / 16) + 1) 0) ≡ written_at b start row
-byte_written t b start row f h =
-    let l = f (b % 16) (omega arith) in
-    let u = f (b / 16) (omega arith) in
-    λ i. set (set (set (set row start ((l.0 ∙ ap weight (pair_0 b)) i)) (start + 1) ((l.1 ∙ ap weight (pair_1 b)) i)) (start + 2) (u.0 i)) (start + 3) ((u.1 ∙ ap weight (pair_3 b h)) i)
 
 weights_at : (bytes : List ℕ) (k : ℕ) → k < length bytes → (get_or (weights_of bytes) (4 * k) 0 ≡ weight (get_or bytes k 0 % 4)) × (get_or (weights_of bytes) (4 * k + 1) 0 ≡ weight (get_or bytes k 0 / 4 % 4)) × (get_or (weights_of bytes) (4 * k + 2) 0 ≡ weight (get_or bytes k 0 / 16 % 4)) × (get_or (weights_of bytes) (4 * k + 3) 0 ≡ weight (get_or bytes k 0 / 64 % 4))
 unfolding pairs

@@ -36,10 +36,8 @@ fn plain_sum(xs: &[u64]) -> u64
     ensures { result ≡ total p64 xs.now }
 {
     let mut sum = Halves::none();
-    let mut k = 0;
-    while k < xs.len() {
-        sum = sum.plus(xs[k], 1);
-        k += 1;
+    for &x in xs {
+        sum = sum.plus(x, 1);
     }
     sum.reduced()
 }
@@ -50,10 +48,8 @@ fn weighed_sum(xs: &[u64], weights: &[u64]) -> u64
     ensures { result ≡ total p64 (by_element (mul_mod p64) xs.now weights.now) }
 {
     let mut sum = Halves::none();
-    let mut k = 0;
-    while k < xs.len() {
-        sum = sum.plus(xs[k], weights[k]);
-        k += 1;
+    for (&x, &w) in xs.iter().zip(weights) {
+        sum = sum.plus(x, w);
     }
     sum.reduced()
 }
@@ -76,10 +72,8 @@ fn write_weights(bytes: &[u8], table: &[u64], weights: &mut [u64])
     requires { PairWeights table.now × ((48 ≤ length table.now) × (length weights.old ≡ 4 * length bytes.now)) }
     ensures { weights.new ≡ weights_of bytes.now }
 {
-    let mut k = 0;
-    while k < bytes.len() {
-        write_byte(bytes[k], table, 4 * k, weights);
-        k += 1;
+    for (k, &byte) in bytes.iter().enumerate() {
+        write_byte(byte, table, 4 * k, weights);
     }
 }
 
@@ -121,11 +115,9 @@ pub fn add_weighed(
 {
     let table = PAIRS;
     let plain = plain_sum(xs);
-    let mut t = 0;
-    while t < results.len() {
+    for t in 0..results.len() {
         let from = t * per + j;
         let to = from + n;
         results[t] = add_bytes(results[t], plain, xs, &stream[from..to], &table, weights);
-        t += 1;
     }
 }

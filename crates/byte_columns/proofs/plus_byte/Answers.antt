@@ -30,34 +30,6 @@ three : (c : After-plus_pair-three) → Summed c.args.xs.now c.args.bytes.now (4
 three c =
     third_pair c.args.xs.now c.args.bytes.now c.requires.below.1.1.1 c.args.j _ _ (omega (arith, c.requires.below.1)) (two c.before) c.plus_pair-three.ensures
 
-pub overflow_mul-k : goal.overflow_mul-k
-overflow_mul-k c = record { fits = omega (arith, c.requires.below.1) }
-
-pub plus_pair-one-requires : goal.plus_pair-one-requires
-plus_pair-one-requires c =
-    (c.requires.below.0, (omega (arith, c.requires.below.1), omega (arith, c.requires.below.1, c.requires.summed.0)))
-
-pub overflow_add-k : goal.overflow_add-k
-overflow_add-k c = record { fits = omega (arith, c.requires.below.1) }
-
-pub plus_pair-two-requires : goal.plus_pair-two-requires
-plus_pair-two-requires c =
-    (c.requires.below.0, (omega (arith, c.requires.below.1), omega (arith, c.requires.below.1, (one c.before).0)))
-
-pub overflow_add-k-2 : goal.overflow_add-k-2
-overflow_add-k-2 c = record { fits = omega (arith, c.requires.below.1) }
-
-pub plus_pair-three-requires : goal.plus_pair-three-requires
-plus_pair-three-requires c =
-    (c.requires.below.0, (omega (arith, c.requires.below.1), omega (arith, c.requires.below.1, (two c.before).0)))
-
-pub overflow_add-k-3 : goal.overflow_add-k-3
-overflow_add-k-3 c = record { fits = omega (arith, c.requires.below.1) }
-
-pub plus_pair-requires : goal.plus_pair-requires
-plus_pair-requires c =
-    (c.requires.below.0, (omega (arith, c.requires.below.1), omega (arith, c.requires.below.1, (three c.before).0)))
-
 pub returns : goal.returns
 returns c =
     fourth_pair c.args.xs.now c.args.bytes.now c.requires.below.1.1.1 c.args.j _ _ (omega (arith, c.requires.below.1)) (three c.before.before) c.plus_pair.ensures

@@ -24,40 +24,13 @@ two : (c : After-plus_pair-two) → Summed c.args.xs.now c.args.bytes.now (4 * c
 two c =
     second_pair c.args.xs.now c.args.bytes.now c.requires.below.1.1.1.1 c.args.j _ _ c.if-xs-k.false (one c.before.before) c.plus_pair-two.ensures
 
-pub overflow_mul-k : goal.overflow_mul-k
-overflow_mul-k c = record { fits = omega (arith, c.requires.below.1) }
-
-pub plus_pair-one-requires : goal.plus_pair-one-requires
-plus_pair-one-requires c =
-    (c.requires.below.0, (c.requires.below.1.0, omega (arith, c.requires.below.1, c.requires.summed.0)))
-
-pub overflow_add-k : goal.overflow_add-k
-overflow_add-k c = record { fits = omega (arith, c.requires.below.1) }
-
 pub returns-then-xs-k : goal.returns-then-xs-k
 returns-then-xs-k c =
     summed_as c.args.xs.now c.args.bytes.now c.requires.below.1.1.1.1 (4 * c.args.j + 1) (length c.args.xs.now) _ (omega (arith, c.requires.below.1, c.if-xs-k.true)) (one c.before.before)
 
-pub overflow_add-k-2 : goal.overflow_add-k-2
-overflow_add-k-2 c = record { fits = omega (arith, c.requires.below.1) }
-
-pub plus_pair-two-requires : goal.plus_pair-two-requires
-plus_pair-two-requires c =
-    (c.requires.below.0, (c.if-xs-k.false, omega (arith, c.requires.below.1, (one c.before.before).0)))
-
-pub overflow_add-k-3 : goal.overflow_add-k-3
-overflow_add-k-3 c = record { fits = omega (arith, c.requires.below.1) }
-
 pub returns-then-xs-k-2 : goal.returns-then-xs-k-2
 returns-then-xs-k-2 c =
     summed_as c.args.xs.now c.args.bytes.now c.requires.below.1.1.1.1 (4 * c.args.j + 2) (length c.args.xs.now) _ (omega (arith, c.requires.below.1, c.if-xs-k-2.true, c.if-xs-k.false)) (two c.before.before)
-
-pub overflow_add-k-4 : goal.overflow_add-k-4
-overflow_add-k-4 c = record { fits = omega (arith, c.requires.below.1) }
-
-pub plus_pair-requires : goal.plus_pair-requires
-plus_pair-requires c =
-    (c.requires.below.0, (c.if-xs-k-2.false, omega (arith, c.requires.below.1, (two c.before.before).0)))
 
 pub returns : goal.returns
 returns c =

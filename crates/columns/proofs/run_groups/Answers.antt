@@ -1,13 +1,12 @@
 -- `columns::run_groups` meets its contract: after the bytes before j, each result is over the first 4j coordinates. Assumes nothing.
-use mathlib.Core.Path.{refl, ap, ◌∙◌}
-use Prim.Native.Nat.{ℕ, ◌-◌, ◌*◌, ◌≤◌, ◌<◌}
+use mathlib.Core.Path.{refl, ◌∙◌}
+use Prim.Native.Nat.{◌-◌, ◌*◌, ◌≤◌}
 use native.Mathlib.Omega.{arith}
 use lib.ListN.{length, take, drop}
 use lib.Dec.{lit<}
 use Rattle.field64.specs.Field.{p64}
 use Rattle.rows.proofs.Elements.{below_take, below_drop}
-use Rattle.flp.specs.Tests.{tests_of}
-use Rattle.groups.proofs.Swapped.{Fits, group_fits, group_cut, part_long, room_less, groups_start, groups_below, groups_next, groups_end, same_room}
+use Rattle.groups.proofs.Swapped.{Fits, group_fits, group_cut, part_long, room_less, groups_start, groups_below, groups_next, same_room}
 use Rattle.columns.proofs.run_groups.Lts as lts
 use Rattle.columns.proofs.run_groups.Reads as reads
 use Rattle.columns.proofs.run_groups.Tie as tie
@@ -23,24 +22,6 @@ pub loop-j-init : goal.loop-j-init
 loop-j-init c =
     (omega arith, refl, refl, groups_start p64 c.args.per c.args.stream.now c.args.gradient.now _ c.args.results.now c.zero_row.ensures)
 
-pub group_from-group-requires : goal.group_from-group-requires
-group_from-group-requires c = (c.loop-j-test.true, (omega (arith, c.requires.below.1.0.1), c.requires.per_in_bounds.1.1))
-
-pub overflow_sub-n : goal.overflow_sub-n
-overflow_sub-n c = omega (arith, fits c.before.before)
-
-pub offset_bounds-gradient-first : goal.offset_bounds-gradient-first
-offset_bounds-gradient-first c = record { fits = omega (arith, fits c.before.before, c.requires.per_in_bounds.1) }
-
-pub slice_bounds-add_group-count : goal.slice_bounds-add_group-count
-slice_bounds-add_group-count c = omega (arith, fits c.before.before)
-
-pub slice_bounds-add_group-start : goal.slice_bounds-add_group-start
-slice_bounds-add_group-start c = omega (arith, fits c.before.before)
-
-pub slice_bounds-add_group-end : goal.slice_bounds-add_group-end
-slice_bounds-add_group-end c = omega (arith, fits c.before.before)
-
 pub add_group-requires : goal.add_group-requires
 add_group-requires c =
     let r = c.group_from-group.result in
@@ -54,23 +35,9 @@ add_group-requires c =
       below_2 = groups_below p64 c.args.per c.args.stream.now xs c.loop-j.results c.loop-j.j _ (lit< tt) c.loop-j.invariant.3;
     }
 
-pub loop-j-smaller : goal.loop-j-smaller
-loop-j-smaller c = omega (arith, fits c.before.before.before.before.before.before.before.before.before.before)
-
 pub loop-j-preserved : goal.loop-j-preserved
 loop-j-preserved c =
     let a = c.add_group in
     let xs = c.args.gradient.now in
     let h : (c.loop-j.j ≤ c.group_from-group.result.end) × (c.group_from-group.result.end ≤ c.args.per) = (omega (arith, fits c.before.before.before.before.before.before.before.before.before.before), (fits c.before.before.before.before.before.before.before.before.before.before).inside) in
     ((fits c.before.before.before.before.before.before.before.before.before.before).inside, a.auto.spare ∙ c.loop-j.invariant.1, a.auto.results ∙ c.loop-j.invariant.2, groups_next p64 c.args.per c.args.stream.now xs c.loop-j.results c.loop-j.j c.group_from-group.result.end _ _ _ _ (lit< tt) h refl (group_cut c.loop-j.j _ c.args.per xs c.group_from-group.result c.loop-j-test.true c.group_from-group.ensures) c.loop-j.invariant.3 a.ensures)
-
-pub shape_of-spare : goal.shape_of-spare
-shape_of-spare c = c.loop-j.invariant.1
-
-pub shape_of-results : goal.shape_of-results
-shape_of-results c = c.loop-j.invariant.2 ∙ c.zero_row.auto.row
-
-pub returns : goal.returns
-returns c =
-    groups_end p64 c.args.per c.args.stream.now c.args.gradient.now c.loop-j.results c.loop-j.j _ c.loop-j-test.false c.requires.per_in_bounds.1.0 c.loop-j.invariant.3
-    ∙ ap (λ (n : ℕ). tests_of p64 c.args.per n c.args.stream.now c.args.gradient.now) c.zero_row.auto.row

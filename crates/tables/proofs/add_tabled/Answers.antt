@@ -8,17 +8,9 @@ use Rattle.rows.proofs.Elements.{below_all}
 use Rattle.tables.proofs.Tables.{group_law}
 use Rattle.tables.proofs.add_tabled.Goals as goal
 
-pub less_group-requires : goal.less_group-requires
-less_group-requires c =
-    let t = c.write_tables in
-    record {
-      per_in_bounds = (c.requires.per_in_bounds.0, (c.requires.per_in_bounds.1.0, omega (arith, c.requires.per_in_bounds.1.1, t.auto.tables)));
-      below = c.requires.below_2;
-    }
-
 pub returns : goal.returns
 returns c =
     let t = c.write_tables in
-    let bytes = below_all 256 c.args.stream.now (λ k h. (c.shared_slice_known-2-1.given k).fits) in
+    let bytes = below_all 256 c.args.stream.now (λ k h. (c.type_inv.stream k).fits) in
     c.less_group.ensures
     ∙ group_law p64 (2 * c.args.n) c.args.xs.now t.new.tables (lit< tt) t.ensures c.args.per c.args.j c.args.n c.args.stream.now c.args.results.now (omega arith) bytes

@@ -1,6 +1,5 @@
 -- `tables::at` meets its contract. Assumes nothing.
-use mathlib.Core.Path.{refl, sym}
-use lib.ListN.{get_or-eq_default}
+use mathlib.Core.Path.{refl}
 use borrow.Author.Rules.{rules}
 use Rattle.field64.specs.Field.{p64}
 use Rattle.rows.proofs.Elements.{below_at}
@@ -9,6 +8,3 @@ use Rattle.tables.proofs.at.Goals as goal
 pub returns-then-k-row : goal.returns-then-k-row
 returns-then-k-row c =
     (below_at p64 c.args.row.now c.requires c.args.k (search rules), refl)
-
-pub returns-else-k-row : goal.returns-else-k-row
-returns-else-k-row c = (search rules, sym (get_or-eq_default c.args.row.now 0 c.if-k-row.false))

@@ -7,9 +7,6 @@ use Rattle.field64.proofs.Sums.{evaluate_below}
 use Rattle.weights.proofs.Weights.{part_fits, part_weighed, bytes_weighed}
 use Rattle.weights.proofs.add_bytes.Goals as goal
 
-pub write_weights-requires : goal.write_weights-requires
-write_weights-requires c = c.requires.pair_weights
-
 pub weighed_sum-weighed-requires : goal.weighed_sum-weighed-requires
 weighed_sum-weighed-requires c =
     (c.requires.below.1.0, part_fits c.args.xs.now c.args.bytes.now _ c.write_weights.ensures c.requires.below.1.1)
