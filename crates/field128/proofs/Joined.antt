@@ -14,14 +14,6 @@ word_pair l h k m = digits_lt m k
 back : (q a b : ℕ) → 0 < q → a < q → b < q → sub_mod q (add_mod q a b % q) b ≡ a
 back q a b z la lb = sub_is q z (add_mod q a b % q) b a (omega arith) (sym (mod-mod (add_mod q a b) q ∙ mod-mod (a + b) q)) ∙ mod-eq_of_lt la
 
--- what the flag of a test is
-pub flag_fits : (b n : ℕ) → n ≡ cond (ltb b p128) 1 0 → n ≤ 1
-flag_fits b n e = go (ltb b p128) e
-  where
-    go : (t : Bool) → n ≡ cond t 1 0 → n ≤ 1
-    go true e = omega arith
-    go false e = omega arith
-
 pub parted_is : (a b : ℕ) → a < p128 → b < 2 ^ 128 → parted (joined a b) b ≡ a
 parted_is a b la lb = go (ltb b p128) refl
   where

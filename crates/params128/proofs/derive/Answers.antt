@@ -6,9 +6,6 @@ use Rattle.params128.specs.Field128.{Field128}
 use Rattle.pine.specs.Record.{derived_beside, derive_of}
 use Rattle.params128.proofs.derive.Goals as goal
 
-pub derive_beside-requires : goal.derive_beside-requires
-derive_beside-requires c = record { F = Field128; narrow = lit≤ tt; is = c.check_param.ensures }
-
 pub returns : goal.returns
 unfolding derive_of
 returns c = c.derive_beside.ensures ∙ ap (λ (a : Answer). derived_beside a c.args.param) c.check_param.ensures
