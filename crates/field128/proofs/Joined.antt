@@ -1,5 +1,5 @@
 -- A number is joined to an element a modulo p where it is below p, or else modulo 2 ^ 128, and parted from it again. Assumes nothing.
-use Rattle.std.proofs.Common.{◌≡◌, ℕ, ◌+◌, ◌%◌, ◌^◌, ◌<◌, ◌≤◌, Bool, true, false, cond, ltb, sym, refl, ◌∙◌, lt_of_lt_of_le, mod-eq_of_lt, arith, lit<, lit≤, ltb-true}
+use Rattle.std.proofs.Common.{◌≡◌, ℕ, ◌+◌, ◌%◌, ◌^◌, ◌<◌, Bool, true, false, cond, ltb, sym, refl, ◌∙◌, lt_of_lt_of_le, mod-eq_of_lt, arith, lit<, lit≤, ltb-true}
 use native.Mathlib.Nat.{mod-mod}
 use lib.Arith.{digits_lt}
 use Rattle.field64.specs.Field.{add_mod, sub_mod}

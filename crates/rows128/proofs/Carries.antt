@@ -1,5 +1,5 @@
 -- An element is below p128 just where its upper word does not wrap with what 2 ^ 128 has beyond p128. Assumes nothing.
-use Rattle.std.proofs.Common.{◌≡◌, ℕ, zero, suc, ◌+◌, ◌-◌, ◌*◌, ◌%◌, ◌^◌, ◌<◌, ◌≤◌, Bool, true, false, cond, eqb, ltb, leb, refl, ap, ◌∙◌, mul-le-mul_right, lt_of_mul-lt-mul_right, arith, lit≤, ltb-false, ltb-true, ne_eqb, leb-false, leb-true}
+use Rattle.std.proofs.Common.{◌≡◌, ℕ, zero, suc, ◌+◌, ◌-◌, ◌*◌, ◌%◌, ◌^◌, ◌<◌, ◌≤◌, Bool, cond, eqb, refl, ap, ◌∙◌, mul-le-mul_right, lt_of_mul-lt-mul_right, arith, lit≤, ne_eqb}
 use lib.Bits.{bit_and, bit_or}
 use Rattle.rows.proofs.Blocks.{carry_gives}
 use Rattle.field128.specs.Field128.{p128, number}

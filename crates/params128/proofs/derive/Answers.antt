@@ -1,8 +1,6 @@
 -- `params128::derive` meets its contract. Assumes nothing.
-use lib.Dec.{lit≤}
 use mathlib.Core.Path.{ap, ◌∙◌}
 use Rattle.rules.specs.declared.Answer.{Answer}
-use Rattle.params128.specs.Field128.{Field128}
 use Rattle.pine.specs.Record.{derived_beside, derive_of}
 use Rattle.params128.proofs.derive.Goals as goal
 
