@@ -51,13 +51,13 @@ loop-j-init c =
 
 pub add_limbs-requires-clause-row_len : goal.add_limbs-requires-clause-row_len
 add_limbs-requires-clause-row_len c =
-    let f = fits c.loop-j.j c.args.width c.args.per c.args.gradient.now _ c.loop-j-test.true c.requires.width_nonzero.0.0 c.group_from-group.ensures in
+    let f = fits c.loop-j.j c.args.width c.args.per c.args.gradient.now _ (omega arith) c.requires.width_nonzero.0.0 c.group_from-group.ensures in
     let r = c.group_from-group.result in
     row_long (r.last - r.first) c.loop-j.row (omega (arith, f, c.loop-j.invariant.1.0, c.requires.width_nonzero.1.0)) ∙ sym (part_long r.first r.last c.args.gradient.now f.in_order f.coordinates)
 
 pub add_limbs-requires-clause-part_len_bound : goal.add_limbs-requires-clause-part_len_bound
 add_limbs-requires-clause-part_len_bound c =
-    let f = fits c.loop-j.j c.args.width c.args.per c.args.gradient.now _ c.loop-j-test.true c.requires.width_nonzero.0.0 c.group_from-group.ensures in
+    let f = fits c.loop-j.j c.args.width c.args.per c.args.gradient.now _ (omega arith) c.requires.width_nonzero.0.0 c.group_from-group.ensures in
     let r = c.group_from-group.result in
     let T = c.loop-j.invariant.2.0.0 ∙ c.zero_row.auto.row in
     let fit = fits_by _ _ (r.end - c.loop-j.j) c.args.width _ _ T c.loop-j.invariant.1.1 f.few c.requires.width_nonzero.0.1 c.requires.width_nonzero.1.1 in
@@ -82,10 +82,10 @@ loop-j-preserved c =
       omega arith,
       (length_front c.loop-j.row a.new.row (r.last - r.first - 0) a.auto.row ∙ c.loop-j.invariant.1.0, a.auto.spare ∙ c.loop-j.invariant.1.1),
       (
-        rw next at (summed_group 0 c.loop-j.j c.args.width c.args.per _ _ c.args.gradient.now c.args.stream.now c.loop-j.low a.new.low c.group_from-group.result c.loop-j-test.true c.requires.width_nonzero.0.0 c.group_from-group.ensures a.auto.low a.ensures.low_after sums.0.0 sums.0),
+        rw next at (summed_group 0 c.loop-j.j c.args.width c.args.per _ _ c.args.gradient.now c.args.stream.now c.loop-j.low a.new.low c.group_from-group.result (omega arith) c.requires.width_nonzero.0.0 c.group_from-group.ensures a.auto.low a.ensures.low_after sums.0.0 sums.0),
         (
-          rw next at (summed_group 1 c.loop-j.j c.args.width c.args.per _ _ c.args.gradient.now c.args.stream.now c.loop-j.middle a.new.middle c.group_from-group.result c.loop-j-test.true c.requires.width_nonzero.0.0 c.group_from-group.ensures a.auto.middle a.ensures.middle_after sums.0.0 sums.1.0),
-          rw next at (summed_group 2 c.loop-j.j c.args.width c.args.per _ _ c.args.gradient.now c.args.stream.now c.loop-j.high a.new.high c.group_from-group.result c.loop-j-test.true c.requires.width_nonzero.0.0 c.group_from-group.ensures a.auto.high a.ensures.high_after sums.0.0 sums.1.1),
+          rw next at (summed_group 1 c.loop-j.j c.args.width c.args.per _ _ c.args.gradient.now c.args.stream.now c.loop-j.middle a.new.middle c.group_from-group.result (omega arith) c.requires.width_nonzero.0.0 c.group_from-group.ensures a.auto.middle a.ensures.middle_after sums.0.0 sums.1.0),
+          rw next at (summed_group 2 c.loop-j.j c.args.width c.args.per _ _ c.args.gradient.now c.args.stream.now c.loop-j.high a.new.high c.group_from-group.result (omega arith) c.requires.width_nonzero.0.0 c.group_from-group.ensures a.auto.high a.ensures.high_after sums.0.0 sums.1.1),
         ),
       ),
     )
@@ -103,7 +103,7 @@ returns-2 c =
     let out : per ≤ min (c.loop-j.j + c.args.width) per = omega arith in
     let few : (k : ℕ) → length (limbs k xs) ≤ 4 * per = λ k. rw (length_limbs k xs) c.requires.per_in_bounds.1.0 in
     record {
-      low_after = tests_by _ _ per _ s (limbs 0 xs) _ m (summed_end _ per s (limbs 0 xs) _ _ _ a.new.low n out (few 0) (summed_group 0 c.loop-j.j c.args.width c.args.per _ _ c.args.gradient.now c.args.stream.now c.loop-j.low a.new.low c.group_from-group.result c.loop-j-test.true c.requires.width_nonzero.0.0 c.group_from-group.ensures a.auto.low a.ensures.low_after sums.0.0 sums.0));
-      middle_after = tests_by _ _ per _ s (limbs 1 xs) _ m (summed_end _ per s (limbs 1 xs) _ _ _ a.new.middle n out (few 1) (summed_group 1 c.loop-j.j c.args.width c.args.per _ _ c.args.gradient.now c.args.stream.now c.loop-j.middle a.new.middle c.group_from-group.result c.loop-j-test.true c.requires.width_nonzero.0.0 c.group_from-group.ensures a.auto.middle a.ensures.middle_after sums.0.0 sums.1.0));
-      high_after = tests_by _ _ per _ s (limbs 2 xs) _ m (summed_end _ per s (limbs 2 xs) _ _ _ a.new.high n out (few 2) (summed_group 2 c.loop-j.j c.args.width c.args.per _ _ c.args.gradient.now c.args.stream.now c.loop-j.high a.new.high c.group_from-group.result c.loop-j-test.true c.requires.width_nonzero.0.0 c.group_from-group.ensures a.auto.high a.ensures.high_after sums.0.0 sums.1.1));
+      low_after = tests_by _ _ per _ s (limbs 0 xs) _ m (summed_end _ per s (limbs 0 xs) _ _ _ a.new.low n out (few 0) (summed_group 0 c.loop-j.j c.args.width c.args.per _ _ c.args.gradient.now c.args.stream.now c.loop-j.low a.new.low c.group_from-group.result (omega arith) c.requires.width_nonzero.0.0 c.group_from-group.ensures a.auto.low a.ensures.low_after sums.0.0 sums.0));
+      middle_after = tests_by _ _ per _ s (limbs 1 xs) _ m (summed_end _ per s (limbs 1 xs) _ _ _ a.new.middle n out (few 1) (summed_group 1 c.loop-j.j c.args.width c.args.per _ _ c.args.gradient.now c.args.stream.now c.loop-j.middle a.new.middle c.group_from-group.result (omega arith) c.requires.width_nonzero.0.0 c.group_from-group.ensures a.auto.middle a.ensures.middle_after sums.0.0 sums.1.0));
+      high_after = tests_by _ _ per _ s (limbs 2 xs) _ m (summed_end _ per s (limbs 2 xs) _ _ _ a.new.high n out (few 2) (summed_group 2 c.loop-j.j c.args.width c.args.per _ _ c.args.gradient.now c.args.stream.now c.loop-j.high a.new.high c.group_from-group.result (omega arith) c.requires.width_nonzero.0.0 c.group_from-group.ensures a.auto.high a.ensures.high_after sums.0.0 sums.1.1));
     }
