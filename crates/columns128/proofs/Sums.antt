@@ -1,20 +1,17 @@
 -- The limbs of a group's coordinates, what few tests ask and many, and the tests on all three limbs. Assumes nothing.
 use mathlib.Core.Path.{◌≡◌, ap, subst, ◌∙◌}
-use mathlib.Core.Bool.{Bool, true, false, cond}
 use mathlib.Core.List.{List}
 use Prim.Native.Nat.{ℕ, ◌-◌, ◌*◌, ◌^◌, ◌≤◌, ◌<◌}
 use native.Mathlib.Omega.{arith}
 use lib.ListN.{length, take, drop}
 use lib.Dec.{leb}
-use borrow.Author.Tests.{le-leb, lt-leb}
-use Rattle.field64.specs.Field.{p64}
 use Rattle.rows.specs.Rows.{Below}
 use Rattle.field128.specs.Field128.{p128, elements_of}
-use Rattle.field128.proofs.Pairs.{elements_length, elements_take, elements_drop}
+use Rattle.field128.proofs.Pairs.{elements_take, elements_drop}
 use Rattle.flp.specs.Tests.{tests_of}
 use Rattle.groups.specs.declared.Group.{Group}
-use Rattle.groups.specs.Groups.{add_group, room_for, group_from}
-use Rattle.groups.proofs.Swapped.{group_cut, room_few, part_long as elements_long}
+use Rattle.groups.specs.Groups.{add_group, group_from}
+use Rattle.groups.proofs.Swapped.{group_cut, part_long as elements_long}
 use Rattle.limbs.specs.Limbs.{limb, limbs, modulus_for, width_for, spare_for, joined_rows}
 use Rattle.limbs.proofs.Summed.{map_cut}
 use Rattle.limbs.proofs.Joined.{enough, tests_joined}
@@ -29,21 +26,12 @@ part_elements first last words =
 pub part_long : (first last : ℕ) (words : List ℕ) → first ≤ last → last ≤ length (elements_of words) → length (elements_of (take (2 * last - 2 * first) (drop (2 * first) words))) ≡ last - first
 part_long first last words h l = ap length (part_elements first last words) ∙ elements_long first last (elements_of words) h l
 
-pub words_inside : (last : ℕ) (words : List ℕ) → last ≤ length (elements_of words) → 2 * last ≤ length words
-words_inside last words h = omega (arith, elements_length words)
-
 -- those of a group
 pub part_limbs : (k j width per : ℕ) (words : List ℕ) (g : Group) → j < per → g ≡ group_from j width per (length (elements_of words))
     → limbs k (elements_of (take (2 * g.last - 2 * g.first) (drop (2 * g.first) words))) ≡ drop (4 * j) (take (4 * g.end) (limbs k (elements_of words)))
 part_limbs k j width per words g h e = map_cut (limb k) (4 * j) (4 * g.end) (elements_of words) _ (part_elements g.first g.last words ∙ group_cut j width per (elements_of words) g h e)
 
 -- ---- the modulus of the sums, and how many bytes are taken at a time
-
-pub few_modulus : (T : ℕ) → T ≤ 2 → modulus_for T ≡ p64
-few_modulus T h = rw (le-leb T 2 h)
-
-pub many_modulus : (T : ℕ) → 2 < T → modulus_for T ≡ 2 ^ 64
-many_modulus T h = rw (lt-leb T 2 h)
 
 pub positive : (T : ℕ) → 0 < modulus_for T
 positive T = omega (arith, enough (leb T 2))
@@ -57,47 +45,9 @@ added_by m m' per j n xs s d d' e f = f ∙ ap (λ (k : ℕ). add_group k per j 
 pub tests_by : (m m' per T : ℕ) (s xs d : List ℕ) → m ≡ m' → d ≡ tests_of m per T s xs → d ≡ tests_of m' per T s xs
 tests_by m m' per T s xs d e f = f ∙ ap (λ (k : ℕ). tests_of k per T s xs) e
 
-few_width : (T : ℕ) → T ≤ 2 → width_for T ≡ 64
-few_width T h = rw (le-leb T 2 h)
-
-many_width : (T : ℕ) → 2 < T → width_for T ≡ 8
-many_width T h = rw (lt-leb T 2 h)
-
-pub width_most : (T : ℕ) → width_for T ≤ 64
-width_most T = go (leb T 2)
-  where
-    go : (t : Bool) → cond t 64 8 ≤ 64
-    go true = omega arith
-    go false = omega arith
-
-few_spare : (T : ℕ) → T ≤ 2 → spare_for T ≡ 256
-few_spare T h = rw (le-leb T 2 h)
-
-many_spare : (T : ℕ) → 2 < T → spare_for T ≡ 768
-many_spare T h = rw (lt-leb T 2 h)
-
--- that is room for the weights of so many bytes, or for all tables
-pub weights_fit : (T n l : ℕ) → T ≤ 2 → n ≤ width_for T → spare_for T ≤ l → (n ≤ 64) × (room_for T n ≤ l)
-weights_fit T n l h w r =
-    let few : T ≤ 6 = omega arith in
-    (omega (arith, few_width T h), omega (arith, few_width T h, few_spare T h, room_few T n few))
-
-pub tables_fit : (T n l : ℕ) → 2 < T → n ≤ width_for T → spare_for T ≤ l → (n ≤ 8) × (768 ≤ l)
-tables_fit T n l h w r = (omega (arith, many_width T h), omega (arith, many_spare T h))
-
 -- of another number that is the same
 pub fits_by : (T T' n m l l' : ℕ) → T' ≡ T → l' ≡ l → n ≤ m → m ≤ width_for T → spare_for T ≤ l → (n ≤ width_for T') × (spare_for T' ≤ l')
 fits_by T T' n m l l' e f h w r = rw (e, f) (omega arith, r)
-
--- a row for the limbs, and one for weights or tables
-abbrev Room : (tests width row spare : ℕ) → Type 0
-Room tests width row spare = ((0 < width) × (width ≤ width_for tests)) × ((4 * width ≤ row) × (spare_for tests ≤ spare))
-
-pub few_room : (T : ℕ) → T ≤ 2 → Room T 64 256 256
-few_room T h = ((omega arith, omega (arith, few_width T h)), (omega arith, omega (arith, few_spare T h)))
-
-pub many_room : (T : ℕ) → 2 < T → Room T 8 32 768
-many_room T h = ((omega arith, omega (arith, many_width T h)), (omega arith, omega (arith, many_spare T h)))
 
 -- ---- the three limbs
 

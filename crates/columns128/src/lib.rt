@@ -113,8 +113,7 @@ fn run_groups(
     rows::zero_row(low);
     rows::zero_row(middle);
     rows::zero_row(high);
-    let mut j = 0;
-    while j < per {
+    for j in (0..per).step_by(width) {
         let group = groups::group_from(j, width, per, gradient.len() / 2);
         let first = 2 * group.first;
         let last = 2 * group.last;
@@ -132,7 +131,6 @@ fn run_groups(
             middle,
             high,
         );
-        j = group.end;
     }
 }
 

@@ -1,37 +1,20 @@
 -- Tables from some place of a row on, and sums of their entries modulo m. Assumes nothing.
-use Rattle.std.proofs.Common.{◌≡◌, ℕ, ◌+◌, ◌*◌, ◌/◌, ◌%◌, ◌^◌, ◌<◌, ◌≤◌, List, [], length, get_or, drop, sym, ap, ◌∙◌, subst, le_of_lt, mod-lt, mod-eq_of_lt, arith, drop_of_length-le, get_or-drop}
+use Rattle.std.proofs.Common.{◌≡◌, ℕ, ◌+◌, ◌*◌, ◌%◌, ◌^◌, ◌<◌, ◌≤◌, List, [], length, get_or, drop, sym, ap, ◌∙◌, le_of_lt, mod-lt, mod-eq_of_lt, arith, drop_of_length-le, get_or-drop}
 use native.Mathlib.Nat.{mod-mod, mod-add-mod}
 use Rattle.field64.proofs.Modular.{sub_is}
 use Rattle.rows.specs.Rows.{Below}
 use Rattle.groups.specs.Groups.{add_group}
-use Rattle.tables.specs.Tables.{Entry, Tables, entries_at, entries_of, less_entries, less_group}
-use Rattle.tables.proofs.Tables.{tables_next, entries_step, group_law}
+use Rattle.tables.specs.Tables.{Tables, entries_at, entries_of, less_entries, less_group}
+use Rattle.tables.proofs.Tables.{entries_step, group_law}
 use Rattle.limbs.specs.Limbs.{limbs}
 use Rattle.limb_tables.specs.LimbTables.{LimbTables}
 
 -- ---- tables from base on
 
--- one more
-pub tables_from : (m base i : ℕ) (xs t t₀ : List ℕ) (a b : ℕ) → a ≡ get_or xs (2 * i) 0 → b ≡ get_or xs (2 * i + 1) 0 → ((k : ℕ) → k < 16 → Entry m a b k (get_or t (base + 16 * i + k) 0)) → ((n : ℕ) → n < base + 16 * i → get_or t n 0 ≡ get_or t₀ n 0) → Tables m i xs (drop base t₀) → Tables m (i + 1) xs (drop base t)
-tables_from m base i xs t t₀ a b ea eb f g w =
-    tables_next m i xs (drop base t) (drop base t₀) a b ea eb entry kept w
-  where
-    entry : (k : ℕ) → k < 16 → Entry m a b k (get_or (drop base t) (16 * i + k) 0)
-    entry k h =
-        let e : base + (16 * i + k) ≡ base + 16 * i + k = omega arith in
-        rw (get_or-drop base t (16 * i + k) 0, e) (f k h)
-
-    kept : (n : ℕ) → n < 16 * i → get_or (drop base t) n 0 ≡ get_or (drop base t₀) n 0
-    kept n h = get_or-drop base t n 0 ∙ g (base + n) (omega arith) ∙ sym (get_or-drop base t₀ n 0)
-
 -- those before far are as they were
 pub tables_kept : (m base far count : ℕ) (xs t t₀ : List ℕ) → base + 16 * count ≤ far → ((n : ℕ) → n < far → get_or t n 0 ≡ get_or t₀ n 0) → Tables m count xs (drop base t₀) → Tables m count xs (drop base t)
 tables_kept m base far count xs t t₀ l g w i h k q =
     rw (get_or-drop base t (16 * i + k) 0 ∙ g (base + (16 * i + k)) (omega arith) ∙ sym (get_or-drop base t₀ (16 * i + k) 0)) (w i h k q)
-
--- those of a row that is another
-pub tables_of : (m count : ℕ) (xs ys t : List ℕ) → ys ≡ xs → Tables m count ys t → Tables m count xs t
-tables_of m count xs ys t e w = subst (λ (zs : List ℕ). Tables m count zs t) e w
 
 -- those of the three limbs, each written after the other
 pub limb_tables : (n : ℕ) (xs t₁ t₂ t₃ : List ℕ) → n ≤ 8 → Tables (2 ^ 64) (2 * n) (limbs 0 xs) (drop 0 t₁)
@@ -41,20 +24,6 @@ limb_tables n xs t₁ t₂ t₃ h low middle kept high kept' =
     (tables_kept (2 ^ 64) 0 256 (2 * n) (limbs 0 xs) t₃ t₁ (omega arith) (λ i l. kept' i (omega arith) ∙ kept i l) low, (tables_kept (2 ^ 64) 256 512 (2 * n) (limbs 1 xs) t₃ t₂ (omega arith) kept' middle, high))
 
 -- ---- the entries of a test's bytes
-
--- those of a byte added
-pub byte_added : (m base start byte s x r : ℕ) (t : List ℕ) → x ≡ (s + get_or t (base + start + byte % 16) 0) % m → r ≡ (x + get_or t (base + start + 16 + byte / 16) 0) % m → r ≡ (s + entries_at (drop base t) start byte) % m
-byte_added m base start byte s x r t e f =
-    let i : base + start + byte % 16 ≡ base + (start + byte % 16) = omega arith in
-    let k : base + start + 16 + byte / 16 ≡ base + (start + 16 + byte / 16) = omega arith in
-    let a : get_or t (base + start + byte % 16) 0 ≡ get_or (drop base t) (start + byte % 16) 0 = ap (λ (n : ℕ). get_or t n 0) i ∙ sym (get_or-drop base t (start + byte % 16) 0) in
-    let b : get_or t (base + start + 16 + byte / 16) 0 ≡ get_or (drop base t) (start + 16 + byte / 16) 0 = ap (λ (n : ℕ). get_or t n 0) k ∙ sym (get_or-drop base t (start + 16 + byte / 16) 0) in
-    two s _ _ _ _ x r e f a b
-  where
-    two : (s a b a' b' x r : ℕ) → x ≡ (s + a) % m → r ≡ (x + b) % m → a ≡ a' → b ≡ b' → r ≡ (s + (a' + b')) % m
-    two s a b a' b' x r e f g h =
-        let order : s + a + b ≡ s + (a' + b') = omega arith in
-        f ∙ ap (λ (n : ℕ). (n + b) % m) e ∙ mod-add-mod (s + a) m b ∙ ap (λ (n : ℕ). n % m) order
 
 module _ (m : ℕ) (positive : 0 < m) (t bytes : List ℕ) where
   -- a sum s of the entries of k bytes, with those of the bytes that are left, is that of all

@@ -64,12 +64,10 @@ fn write_tables(xs: &[u64], count: usize, base: usize, tables: &mut [u64])
     ensures tables { Tables (2 ^ 64) count xs.now (drop base tables.new) }
     ensures by_index { (i : ℕ) → i < base → slice_index tables.new i ≡ slice_index tables.old i }
 {
-    let mut i = 0;
-    while i < count {
+    for i in 0..count {
         let a = at(xs, 2 * i);
         let b = at(xs, 2 * i + 1);
         write_table(a, b, base + 16 * i, tables);
-        i += 1;
     }
 }
 
@@ -116,13 +114,10 @@ fn sums_of(bytes: &[u8], tables: &[u64]) -> Sums
     let mut low = 0;
     let mut middle = 0;
     let mut high = 0;
-    let mut k = 0;
-    while k < bytes.len() {
-        let byte = bytes[k];
+    for (k, &byte) in bytes.iter().enumerate() {
         low = plus_byte(low, byte, 0, 32 * k, tables);
         middle = plus_byte(middle, byte, MIDDLE, 32 * k, tables);
         high = plus_byte(high, byte, HIGH, 32 * k, tables);
-        k += 1;
     }
     Sums { low, middle, high }
 }
@@ -144,15 +139,13 @@ fn less_group(
     ensures middle_after { middle.new ≡ less_group (2 ^ 64) (drop 256 tables.now) per j n stream.now middle.old }
     ensures high_after { high.new ≡ less_group (2 ^ 64) (drop 512 tables.now) per j n stream.now high.old }
 {
-    let mut t = 0;
-    while t < low.len() {
+    for t in 0..low.len() {
         let start = t * per + j;
         let end = start + n;
         let sums = sums_of(&stream[start..end], tables);
         low[t] = std::num::wrapping_sub_u64(low[t], sums.low);
         middle[t] = std::num::wrapping_sub_u64(middle[t], sums.middle);
         high[t] = std::num::wrapping_sub_u64(high[t], sums.high);
-        t += 1;
     }
 }
 

@@ -1,7 +1,7 @@
--- Limbs of elements by their words, and the results on limbs put together, with the loops over rows of them. Assumes nothing.
-use Rattle.std.proofs.Common.{◌≡◌, ℕ, zero, suc, ◌+◌, ◌-◌, ◌*◌, ◌/◌, ◌%◌, ◌^◌, ◌<◌, ◌≤◌, Bool, true, false, List, [], ◌∷◌, length, get_or, set, sym, refl, ap, ◌∙◌, lt_of_lt_of_le, mod-lt, zero-add, arith, lit<, lit≤}
+-- Rows of limbs, and the results on limbs put together, with the loops over rows of them. Assumes nothing.
+use Rattle.std.proofs.Common.{◌≡◌, ℕ, zero, suc, ◌+◌, ◌*◌, ◌%◌, ◌^◌, ◌<◌, ◌≤◌, List, [], ◌∷◌, length, get_or, set, sym, refl, ap, ◌∙◌, lt_of_lt_of_le, mod-lt, zero-add, arith, lit<, lit≤}
 use lib.ListN.{length-map}
-use Rattle.field64.specs.Field.{p64, add_mod, sub_mod}
+use Rattle.field64.specs.Field.{add_mod}
 use Rattle.field64.proofs.Modular.{modular}
 use Rattle.rows.specs.Rows.{Below}
 use Rattle.rows.proofs.Elements.{below_at}
@@ -9,28 +9,7 @@ use Rattle.rows.proofs.Walk.{Walking, walking_next, walked_end}
 use Rattle.field128.specs.Field128.{p128, number, elements_of, words_of, Whole}
 use Rattle.rows128.proofs.ByPairs.{same_elements, element_next, words_end}
 use Rattle.limbs.proofs.Summed.{map_at}
-use Rattle.limbs.specs.Limbs.{limb, limbs, modulus_of, raise_low, raise_middle, raise_high, joined, joined_rows, SameLength}
-
--- ---- the limbs of an element
-
-without_low : (low high : ℕ) → number low high / 2 ^ 43 ≡ high * 2 ^ 21 + low / 2 ^ 43
-without_low low high = omega arith
-
-top : (m high : ℕ) → m < 2 ^ 21 → high < 2 ^ 64 → (high * 2 ^ 21 + m) / 2 ^ 43 % 2 ^ 43 ≡ high / 2 ^ 22
-top m high l h = omega arith
-
-module _ (k low high : ℕ) (l : low < 2 ^ 64) where
-  pub low_limb : k ≡ 0 → low % 2 ^ 43 ≡ limb k (number low high)
-  low_limb e = rw e (omega arith)
-
-  pub middle_fits : high % 2 ^ 22 * 2 ^ 21 + low / 2 ^ 43 < 2 ^ 64
-  middle_fits = omega arith
-
-  pub middle_limb : k ≡ 1 → high % 2 ^ 22 * 2 ^ 21 + low / 2 ^ 43 ≡ limb k (number low high)
-  middle_limb e = rw (e, without_low low high) (omega arith)
-
-  pub high_limb : k ≡ 2 → high < 2 ^ 64 → high / 2 ^ 22 ≡ limb k (number low high)
-  high_limb e h = rw (e, without_low low high) (sym (top (low / 2 ^ 43) high (omega arith) h))
+use Rattle.limbs.specs.Limbs.{limb, limbs, raise_low, raise_middle, raise_high, joined, joined_rows, SameLength}
 
 -- ---- rows of limbs
 
@@ -64,30 +43,6 @@ shifted_below n m h e =
 
 pub remainder_below : (n m : ℕ) → n ≡ m % p128 → n < p128
 remainder_below n m e = rw e (mod-lt m (lit< tt))
-
--- w₂ * W ^ 2 + w₁ * W for the words of n times A, with A * B for W and C * C for A * W
-by_words : (A B C n q m : ℕ) → n ≡ q * B + m → C * C ≡ A * (A * B) → (X : ℕ) → 0 * X + q * ((A * B) * (A * B)) + m * A * (A * B) + 0 ≡ C * (C * n)
-by_words A B C n q m e f X =
-    let g : C * C * (q * B + m) ≡ A * (A * B) * (q * B + m) = ap (λ (x : ℕ). x * (q * B + m)) f in
-    rw e (omega arith)
-
-pub twice_shifted : (n r : ℕ) → r ≡ (0 * 2 ^ 192 + n / 2 ^ 42 * 2 ^ 128 + n % 2 ^ 42 * 2 ^ 22 * 2 ^ 64 + 0) % p128 → r ≡ 2 ^ 43 * (2 ^ 43 * n) % p128
-twice_shifted n r g =
-    let d : n ≡ n / 2 ^ 42 * 2 ^ 42 + n % 2 ^ 42 = omega arith in
-    g ∙ ap (λ (m : ℕ). m % p128) (by_words (2 ^ 22) (2 ^ 42) (2 ^ 43) n (n / 2 ^ 42) (n % 2 ^ 42) d refl (2 ^ 192))
-
--- a sum raised: modulo p of Field64 what p lacks of the number is taken off
-module _ (reduced : Bool) (sum raise r : ℕ) where
-  pub reduced_below : reduced ≡ true → sum < modulus_of reduced → sum < p64
-  reduced_below e h = rw e at h
-
-  pub raised_reduced : reduced ≡ true → raise < p64 → r ≡ sub_mod p64 sum (p64 - raise) → r ≡ add_mod (modulus_of reduced) sum raise
-  raised_reduced e h f =
-      let g : p64 - (p64 - raise) ≡ raise = omega arith in
-      rw e (f ∙ ap (λ (n : ℕ). (sum + n) % p64) g)
-
-  pub raised_word : reduced ≡ false → r ≡ (sum + raise) % 2 ^ 64 → r ≡ add_mod (modulus_of reduced) sum raise
-  raised_word e f = rw e f
 
 pub joined_is : (m low middle high a b c y s t r : ℕ) → a ≡ add_mod m low raise_low → b ≡ add_mod m middle raise_middle → c ≡ add_mod m high raise_high
     → y ≡ 2 ^ 43 * b → s ≡ add_mod p128 (number a 0) y → t ≡ 2 ^ 43 * (2 ^ 43 * c) % p128 → r ≡ add_mod p128 s t → r ≡ joined m low middle high

@@ -38,10 +38,8 @@ pub fn write_limbs(words: &[u64], k: u64, row: &mut [u64])
     requires { (k ≤ 2) × (length row.old ≡ length (elements_of words.now)) }
     ensures { row.new ≡ limbs k (elements_of words.now) }
 {
-    let mut i = 0;
-    while i < row.len() {
+    for i in 0..row.len() {
         row[i] = limb_of(rows128::element(words, i), k);
-        i += 1;
     }
 }
 
@@ -99,9 +97,7 @@ pub fn join_rows(reduced: bool, low: &[u64], middle: &[u64], high: &[u64], resul
     requires below { Below (modulus_of reduced) low.now × (Below (modulus_of reduced) middle.now × Below (modulus_of reduced) high.now) }
     ensures { results.new ≡ words_of (joined_rows (modulus_of reduced) low.now middle.now high.now) }
 {
-    let mut i = 0;
-    while i < low.len() {
+    for i in 0..low.len() {
         rows128::store(results, i, join(reduced, low[i], middle[i], high[i]));
-        i += 1;
     }
 }

@@ -1,4 +1,4 @@
--- A loop that replaces each element x of a row d by f x y, for y that of a row s of the same length; both rows hold two words to an element. Assumes nothing.
+-- An element by its words, and a loop that replaces each element x of a row d by f x y, for y that of a row s of the same length; both rows hold two words to an element. Assumes nothing.
 use Rattle.std.proofs.Common.{◌≡◌, ℕ, zero, suc, ◌+◌, ◌*◌, ◌/◌, ◌%◌, ◌^◌, ◌<◌, ◌≤◌, List, [], ◌∷◌, length, get_or, set, sym, refl, ap, ◌∙◌, arith}
 use lib.Arith.{digits_div, digits_mod}
 use Rattle.rows.specs.Rows.{Below, by_element}
@@ -7,6 +7,10 @@ use Rattle.rows.proofs.ByElement.{length_by, get_or_by}
 use Rattle.rows.proofs.Walk.{walked, Walking, walking_next, walked_end}
 use Rattle.field128.specs.Field128.{number, elements_of, words_of, Whole}
 use Rattle.field128.proofs.Pairs.{element_at, same_number, words_length, word_low, word_high}
+
+-- the element that two words make
+pub element_by_words : (ws : List ℕ) (i low high : ℕ) → i < length (elements_of ws) → (low ≡ get_or ws (2 * i) 0) × (high ≡ get_or ws (2 * i + 1) 0) → number low high ≡ get_or (elements_of ws) i 0
+element_by_words ws i low high h e = (λ j. number (e.0 j) (e.1 j)) ∙ sym (element_at ws i h)
 
 -- what stands past i is as it was
 walked_past : (R d : List ℕ) (i j : ℕ) → length R ≡ length d → i ≤ j → j < length d → get_or (walked R d i) j 0 ≡ get_or d j 0
@@ -36,7 +40,7 @@ module _ (xs d a : List ℕ) (i : ℕ) (whole : Whole d) (same : length xs ≡ l
   pub element_kept : i < length (elements_of d) → get_or (elements_of a) i 0 ≡ get_or (elements_of d) i 0
   element_kept h =
       let k = words_kept h in
-      element_at a i (omega (arith, same_elements)) ∙ (λ j. number (k.0 j) (k.1 j)) ∙ sym (element_at d i h)
+      element_at a i (omega (arith, same_elements)) ∙ element_by_words d i _ _ h k
 
   -- a turn: two words are stored
   pub element_next : i < length (elements_of d) → (low high : ℕ) → low < 2 ^ 64 → number low high ≡ get_or xs i 0 → Walking (words_of xs) d (set (set a (2 * i) low) (2 * i + 1) high) (2 * (i + 1))

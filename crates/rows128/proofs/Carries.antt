@@ -1,5 +1,5 @@
 -- An element is below p128 just where its upper word does not wrap with what 2 ^ 128 has beyond p128. Assumes nothing.
-use Rattle.std.proofs.Common.{◌≡◌, ℕ, zero, suc, ◌+◌, ◌-◌, ◌*◌, ◌%◌, ◌^◌, ◌<◌, ◌≤◌, Bool, true, false, cond, eqb, ltb, leb, refl, ap, ◌∙◌, mul-le-mul_right, lt_of_mul-lt-mul_right, arith, lit≤, ltb-false, ltb-true, ne_eqb, leb-false, leb-true}
+use Rattle.std.proofs.Common.{◌≡◌, ℕ, zero, suc, ◌+◌, ◌-◌, ◌*◌, ◌%◌, ◌^◌, ◌<◌, ◌≤◌, Bool, cond, eqb, refl, ap, ◌∙◌, mul-le-mul_right, lt_of_mul-lt-mul_right, arith, lit≤, ne_eqb}
 use lib.Bits.{bit_and, bit_or}
 use Rattle.rows.proofs.Blocks.{carry_gives}
 use Rattle.field128.specs.Field128.{p128, number}
@@ -42,28 +42,4 @@ gathered seen (suc low) high b s l h e w =
       λ k. g.1 (k.0, below_some (2 ^ 64) 18446744073709551588 high low k.1),
     )
 
--- what is seen in one element
-pub seen_bad : (p x r : ℕ) → (x < p → r < 2 ^ 63) → 2 ^ 63 ≤ r → p ≤ x
-seen_bad p x r f h = go (ltb x p) refl
-  where
-    go : (t : Bool) → ltb x p ≡ t → p ≤ x
-    go true e = absurd (omega (arith, f (ltb-true x p e)))
-    go false e = ltb-false x p e
-
 -- ---- one element by its upper word
-
--- u is the last upper word of a number below p beside this lower one
-tells : (p u high n : ℕ) → (high ≤ u → n < p) → (n < p → high ≤ u) → ltb u high ≡ leb p n
-tells p u high n f g = go (ltb u high) (leb p n) refl refl
-  where
-    go : (s t : Bool) → ltb u high ≡ s → leb p n ≡ t → s ≡ t
-    go true true d e = refl
-    go true false d e = absurd (omega (arith, ltb-true u high d, g (leb-false p n e)))
-    go false true d e = absurd (omega (arith, leb-true p n e, f (ltb-false u high d)))
-    go false false d e = refl
-
-pub upper_tells : (low high u : ℕ) → low < 2 ^ 64 → u ≡ cond (eqb low 0) 18446744073709551588 18446744073709551587 → ltb u high ≡ leb p128 (number low high)
-upper_tells zero high u l e = tells p128 u high (number 0 high) (λ h. zero_below (2 ^ 64) 18446744073709551588 high (omega arith)) (λ h. omega (arith, below_zero (2 ^ 64) 18446744073709551588 high (omega arith) h))
-upper_tells (suc low) high u l e =
-    let f : u ≡ 18446744073709551587 = e ∙ ap (λ (t : Bool). cond t 18446744073709551588 18446744073709551587) (ne_eqb (suc low) 0 (λ z. omega arith)) in
-    tells p128 u high (number (suc low) high) (λ h. some_below (2 ^ 64) 18446744073709551588 high low l (omega arith)) (λ h. omega (arith, below_some (2 ^ 64) 18446744073709551588 high low h))

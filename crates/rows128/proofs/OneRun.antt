@@ -52,9 +52,6 @@ below_one_less p (x ∷ xs) (suc i) h f =
     let r = below_one_less p xs i (omega arith) f.1 in
     ((f.0, r.0), r.1)
 
-pub counted_none : (p : ℕ) (xs : List ℕ) → Counted p xs 0 0
-counted_none p xs = (omega arith, ((λ e. tt), (λ f. refl)))
-
 pub counted_next : (p : ℕ) (xs : List ℕ) (b i y t : ℕ) → i < length xs → y ≡ get_or xs i 0 → t ≡ cond (ltb y p) 1 0 → Counted p xs b i → Counted p xs (b + t) (i + 1)
 counted_next p xs b i y t h e f k = rw add-one (go (ltb y p) refl f)
   where

@@ -28,8 +28,7 @@ fn join_rows(agg: &mut [u64], share: &[u64]) -> Run
 {
     let n = agg.len() / 2;
     let mut below = 0;
-    let mut i = 0;
-    while i < n {
+    for i in 0..n {
         let a = crate::read(agg, i);
         if scan::is_bad(a) {
             return Run { done: i, below };
@@ -37,9 +36,8 @@ fn join_rows(agg: &mut [u64], share: &[u64]) -> Run
         let sum = joining::join(a, crate::element(share, i));
         crate::store(agg, i, sum.made);
         below += sum.below;
-        i += 1;
     }
-    Run { done: i, below }
+    Run { done: n, below }
 }
 
 // Parts the first n of share's elements from agg's.
@@ -47,11 +45,9 @@ fn part_rows(agg: &mut [u64], share: &[u64], n: usize)
     requires { (Whole agg.old × (length agg.old ≡ length share.now)) × (n ≤ length (elements_of agg.old)) }
     ensures { agg.new ≡ take (2 * n) (words_of (by_element parted (elements_of agg.old) (elements_of share.now))) ++ drop (2 * n) agg.old }
 {
-    let mut i = 0;
-    while i < n {
+    for i in 0..n {
         let e = joining::part(crate::element(agg, i), crate::element(share, i));
         crate::store(agg, i, e);
-        i += 1;
     }
 }
 

@@ -14,6 +14,7 @@ ghost use Rattle.rows.specs.Rows.{elements_from, elements_rule, Below, sub_rows}
 ghost use Rattle.field128.specs.Field128.{p128, number_of, elements_of, words_of, Whole};
 
 // The two words of the element at i.
+#[tactic(auto, using(field128::proofs::Pairs::elements_length))]
 fn read(row: &[u64], i: usize) -> Element
     requires { i < length (elements_of row.now) }
     ensures { (result.low ≡ slice_index row.now (2 * i)) × (result.high ≡ slice_index row.now (2 * i + 1)) }
@@ -35,6 +36,7 @@ pub fn element(row: &[u64], i: usize) -> Element
 }
 
 // Sets the element at i.
+#[tactic(auto, using(field128::proofs::Pairs::elements_length))]
 pub fn store(row: &mut [u64], i: usize, e: Element)
     requires { i < length (elements_of row.old) }
     ensures { row.new ≡ slice_set (slice_set row.old (2 * i) e.low) (2 * i + 1) e.high }
@@ -80,10 +82,8 @@ pub fn sub_rows(agg: &mut [u64], share: &[u64])
     ensures { agg.new ≡ words_of (sub_rows p128 (elements_of agg.old) (elements_of share.now)) }
 {
     let n = agg.len() / 2;
-    let mut i = 0;
-    while i < n {
+    for i in 0..n {
         let difference = field128::sub(element(agg, i), element(share, i));
         store(agg, i, difference);
-        i += 1;
     }
 }

@@ -44,36 +44,32 @@ pub fn or_carry(seen: u64, low: u64, high: u64) -> u64
 }
 
 // 2^63 or more just where an element of a row is not below p.
+#[tactic(auto, using(field128::proofs::Pairs::elements_length))]
 pub fn carries(row: &[u64]) -> u64
     ensures below { result < 2 ^ 63 → Below p128 (elements_of row.now) }
     ensures upper_bound { Below p128 (elements_of row.now) → result < 2 ^ 63 }
 {
     let n = row.len() / 2;
     let mut seen = 0;
-    let mut i = 0;
-    while i < n {
+    for i in 0..n {
         let e = crate::element(row, i);
         seen = or_carry(seen, e.low, e.high);
-        i += 1;
     }
     seen
 }
 
 // The index of the first element that is not below p, or their number where there is none.
+#[tactic(auto, using(field128::proofs::Pairs::elements_length))]
 fn search(row: &[u64]) -> usize
     ensures { result ≡ first_bad p128 (elements_of row.now) }
 {
     let n = row.len() / 2;
-    let mut i = 0;
-    while i < n {
-        let e = crate::element(row, i);
-        if or_carry(0, e.low, e.high) < 1 << 63 {
-            i += 1;
-        } else {
+    for i in 0..n {
+        if is_bad(crate::element(row, i)) {
             return i;
         }
     }
-    i
+    n
 }
 
 // The same: only a row with a carry is searched.

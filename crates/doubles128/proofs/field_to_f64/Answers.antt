@@ -3,7 +3,7 @@ use Rattle.std.proofs.Common.{◌<◌, sym, ◌∙◌, le-ltb, lt-ltb, leb-false
 use lib.Ieee.{of_bits}
 use Rattle.field128.specs.Field128.{p128, number_of}
 use Rattle.doubles.specs.Doubles.{decoded_of}
-use Rattle.doubles128.proofs.Sizes.{not_large, decoded_refused, decoded_accepted}
+use Rattle.doubles128.proofs.Sizes.{decoded_refused, decoded_accepted}
 use Rattle.doubles128.proofs.field_to_f64.Lts as lts
 use Rattle.doubles128.proofs.field_to_f64.Reads as reads
 use Rattle.doubles128.proofs.field_to_f64.Tie as tie
@@ -23,21 +23,10 @@ pub returns-then-reaches_p : goal.returns-then-reaches_p
 unfolding decoded_of of_bits
 returns-then-reaches_p c = simp (le-ltb _ _ c.if-frac_bits-gt-MAX_FRAC_BITS.false, sym c.reaches_p.ensures ∙ c.if-reaches_p.true)
 
-pub check_size-answer-requires : goal.check_size-answer-requires
-check_size-answer-requires c = below_p c
-
 pub returns-then-answer-ne0 : goal.returns-then-answer-ne0
 unfolding of_bits
 returns-then-answer-ne0 c =
     decoded_refused (number_of c.args.y) c.args.frac_bits c.if-frac_bits-gt-MAX_FRAC_BITS.false (below_p c.before.before.before) c.check_size-answer.result c.check_size-answer.ensures c.if-answer-ne0.true
-
-pub decode-requires : goal.decode-requires
-decode-requires c =
-    record {
-      fact_1 = below_p c.before.before.before.before;
-      fact_2 = not_large (number_of c.args.y) c.check_size-answer.result c.check_size-answer.ensures c.if-answer-ne0.false;
-      fact_3 = c.scale_of.ensures;
-    }
 
 pub returns : goal.returns
 returns c =

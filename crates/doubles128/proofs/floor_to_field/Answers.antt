@@ -1,8 +1,7 @@
 -- `doubles128::floor_to_field` meets its contract. Assumes nothing.
-use Rattle.std.proofs.Common.{◌≤◌, ltb, rules}
+use Rattle.std.proofs.Common.{◌≤◌, rules}
 use Rattle.doubles.specs.Steps.{floor_at}
-use Rattle.doubles128.proofs.Sizes.{flag_is}
-use Rattle.doubles128.proofs.Words.{Signed, signed_of, sign_fits, upper_word, upper_fits, carried, element_is}
+use Rattle.doubles128.proofs.Words.{Signed, signed_of, sign_fits, carried, element_is}
 use Rattle.doubles128.proofs.floor_to_field.Lts as lts
 use Rattle.doubles128.proofs.floor_to_field.Reads as reads
 use Rattle.doubles128.proofs.floor_to_field.Tie as tie
@@ -17,13 +16,6 @@ parts c =
 
 few : (c : After-less-carry) → c.sign_of-sign.result ≤ 1
 few c = sign_fits _ _ _ (parts c)
-
-pub overflow_mul-high : goal.overflow_mul-high
-overflow_mul-high c = record { fits = upper_word c.sign_of-sign.result (few c) }
-
-pub overflow_add-high : goal.overflow_add-high
-overflow_add-high c =
-    record { fits = upper_fits c.sign_of-sign.result c.less-carry.result (few c) (flag_is _ (ltb c.wrapping_add_u64-low.result c.sign_of-sign.result) c.less-carry.ensures) }
 
 pub returns : goal.returns
 returns c =

@@ -1,5 +1,4 @@
 -- `limbs::write_limbs` meets its contract. Assumes nothing.
-use Rattle.std.proofs.Common.{◌-◌, length}
 use Rattle.rows.proofs.Walk.{Walking}
 use Rattle.field128.specs.Field128.{elements_of}
 use Rattle.limbs.specs.Limbs.{limbs}
@@ -7,6 +6,3 @@ use Rattle.limbs.proofs.write_limbs.Given as goal
 
 abbrev pub invariant-loop-i : goal.invariant-loop-i
 invariant-loop-i l = Walking (limbs l.k (elements_of l.words)) l.initial.row l.row l.i
-
-abbrev pub decreases-loop-i : goal.decreases-loop-i
-decreases-loop-i l = length l.initial.row - l.i

@@ -1,13 +1,8 @@
 -- `params128::derive` meets its contract. Assumes nothing.
-use lib.Dec.{lit≤}
 use mathlib.Core.Path.{ap, ◌∙◌}
 use Rattle.rules.specs.declared.Answer.{Answer}
-use Rattle.params128.specs.Field128.{Field128}
 use Rattle.pine.specs.Record.{derived_beside, derive_of}
 use Rattle.params128.proofs.derive.Goals as goal
-
-pub derive_beside-requires : goal.derive_beside-requires
-derive_beside-requires c = record { F = Field128; narrow = lit≤ tt; is = c.check_param.ensures }
 
 pub returns : goal.returns
 unfolding derive_of

@@ -1,12 +1,6 @@
 -- `rows128::element` meets its contract. Assumes nothing.
-use Rattle.std.proofs.Common.{sym, ◌∙◌}
-use Rattle.field128.specs.Field128.{number}
-use Rattle.field128.proofs.Pairs.{element_at}
+use Rattle.rows128.proofs.ByPairs.{element_by_words}
 use Rattle.rows128.proofs.element.Goals as goal
 
-pub read-requires : goal.read-requires
-read-requires c = c.requires
-
 pub returns : goal.returns
-returns c =
-    (λ j. number (c.read.ensures.0 j) (c.read.ensures.1 j)) ∙ sym (element_at c.args.row.now c.args.i c.requires)
+returns c = element_by_words c.args.row.now c.args.i _ _ c.requires c.read.ensures

@@ -1,14 +1,10 @@
 -- `rows128::or_elements` meets its contract. Assumes nothing.
 use Rattle.std.proofs.Common.{ℕ, sym, ap, ◌∙◌}
-use Rattle.rules.proofs.Chain.{first_refused}
 use Rattle.rows.specs.Rows.{elements_from}
 use Rattle.rows.proofs.Elements.{elements_after}
 use Rattle.field128.specs.Field128.{p128, elements_of}
 use Rattle.field128.proofs.Pairs.{elements_length}
 use Rattle.rows128.proofs.or_elements.Goals as goal
-
-pub returns-then-so_far-ne0 : goal.returns-then-so_far-ne0
-returns-then-so_far-ne0 c = sym (first_refused _ _ c.if-so_far-ne0.true)
 
 pub returns : goal.returns
 returns c =
