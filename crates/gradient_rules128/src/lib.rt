@@ -15,8 +15,8 @@ fn search(gradient: &[f64], scale: f64, frac_bits: u64) -> Answer
     requires { scale ≡ power frac_bits }
     ensures { result ≡ coordinates_rule floor_limit128 frac_bits 0 gradient.now }
 {
-    for i in 0..gradient.len() {
-        let answer = doubles128::check_coordinate(gradient[i], scale, frac_bits);
+    for (i, &x) in gradient.iter().enumerate() {
+        let answer = doubles128::check_coordinate(x, scale, frac_bits);
         if answer.number != 0 {
             return Answer {
                 number: answer.number,

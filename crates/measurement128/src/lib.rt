@@ -22,8 +22,8 @@ fn write_elements(gradient: &[f64], scale: f64, frac_bits: u64, row: &mut [u64])
     requires row_len { length row.old ≡ 2 * length gradient.now }
     ensures { row.new ≡ words_of (elements p128 frac_bits gradient.now) }
 {
-    for k in 0..gradient.len() {
-        let e = doubles128::element_of(gradient[k], scale, frac_bits);
+    for (k, &x) in gradient.iter().enumerate() {
+        let e = doubles128::element_of(x, scale, frac_bits);
         rows128::store(row, k, e);
     }
 }
