@@ -1,7 +1,7 @@
 -- Encoding over rows of two words to an element, the rules up to 9 met: what is asked for the tests, and of the results that they found, is there. Assumes nothing.
 use mathlib.Core.Path.{◌≡◌, sym, subst, ap, ◌∙◌}
 use mathlib.Core.List.{List}
-use Prim.Native.Nat.{ℕ, ◌+◌, ◌*◌, ◌/◌, ◌^◌, ◌≤◌, ◌<◌, min}
+use Prim.Native.Nat.{ℕ, ◌+◌, ◌*◌, ◌/◌, ◌≤◌, min}
 use native.Mathlib.Nat.{le_of_eq}
 use native.Mathlib.Omega.{arith}
 use lib.ListN.{length, take}
@@ -32,9 +32,6 @@ module _ (i : PineParam) (g : List Float) (s m r found : List ℕ) (met : in_ord
 
   pub met_rules : Ready Field128 i g s m r met
   met_rules = ready Field128 i g s m r met
-
-  pub coordinates_fit : length g + 3 < 2 ^ 64
-  coordinates_fit = omega (arith, met_rules.gradient_long, met_rules.dimension)
 
   found_words : length found ≡ 2 * i.num_wr_tests
   found_words = omega (arith, short, met_rules.results_long, met_rules.tests)

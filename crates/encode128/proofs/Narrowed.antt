@@ -3,7 +3,7 @@ use mathlib.Core.Path.{◌≡◌, refl, sym, ap, ◌∙◌}
 use mathlib.Core.Bool.{Bool, true, false, cond}
 use mathlib.Core.List.{List, ◌++◌, map}
 use Prim.Native.Nat.{ℕ, ◌+◌, ◌-◌, ◌*◌, ◌%◌, ◌^◌, ◌≤◌, ◌<◌}
-use native.Mathlib.Nat.{zero-add, zero-mul, le_trans, lt_trans, lt_of_le_of_lt, mod-eq_of_lt, add-mod_left}
+use native.Mathlib.Nat.{le_trans, lt_trans, lt_of_le_of_lt, mod-eq_of_lt, add-mod_left}
 use native.Mathlib.Omega.{arith}
 use lib.ListN.{length, length-map}
 use lib.Dec.{ltb, lit<, lit≤}
@@ -29,10 +29,6 @@ use Rattle.narrow.specs.Narrow.{narrowed, narrowed_norm}
 use Rattle.narrow.proofs.Moved.{moved_below, range_same, bits_same}
 use Rattle.encode.specs.Late.{Rooms, late_of}
 use Rattle.encode.proofs.Encoding.{bound_is, bounds_fit, rest_long, late_refused, late_accepted}
-
--- ---- a squared norm has three words of four
-pub three_words : (top high low : ℕ) → 0 * 2 ^ 192 + top + high + low ≡ top + high + low
-three_words top high low = rw (zero-mul (2 ^ 192), zero-add top)
 
 -- ---- a squared norm as one word, beside a bound that has one
 

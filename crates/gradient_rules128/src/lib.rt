@@ -15,16 +15,14 @@ fn search(gradient: &[f64], scale: f64, frac_bits: u64) -> Answer
     requires { scale ≡ power frac_bits }
     ensures { result ≡ coordinates_rule floor_limit128 frac_bits 0 gradient.now }
 {
-    let mut i = 0;
-    while i < gradient.len() {
-        let answer = doubles128::check_coordinate(gradient[i], scale, frac_bits);
+    for (i, &x) in gradient.iter().enumerate() {
+        let answer = doubles128::check_coordinate(x, scale, frac_bits);
         if answer.number != 0 {
             return Answer {
                 number: answer.number,
                 place: i as u64,
             };
         }
-        i += 1;
     }
     Answer::accepted()
 }
@@ -35,10 +33,8 @@ fn count_refused(gradient: &[f64], scale: f64, frac_bits: u64) -> u64
     ensures { result ≡ 0 → accepted ≡ coordinates_rule floor_limit128 frac_bits 0 gradient.now }
 {
     let mut count = 0;
-    let mut i = 0;
-    while i < gradient.len() {
-        count += doubles128::refused(gradient[i], scale, frac_bits);
-        i += 1;
+    for &x in gradient {
+        count += doubles128::refused(x, scale, frac_bits);
     }
     count
 }

@@ -1,10 +1,10 @@
 -- A row whose first n words become its n elements, from the back: the first i are still as they were, and from element i on it is done. Assumes nothing.
-use mathlib.Core.Path.{◌≡◌, refl, sym, ap, ◌∙◌}
-use mathlib.Core.List.{List, [], ◌∷◌}
+use mathlib.Core.Path.{◌≡◌, sym, ap, ◌∙◌}
+use mathlib.Core.List.{List, ◌∷◌}
 use Prim.Native.Nat.{ℕ, suc, ◌+◌, ◌*◌, ◌/◌, ◌%◌, ◌^◌, ◌≤◌, ◌<◌}
 use native.Mathlib.Nat.{mod-eq_of_lt, div-eq_of_lt}
 use native.Mathlib.Omega.{arith}
-use lib.ListN.{length, get_or, take, drop, set, length-set, drop_of_length-le}
+use lib.ListN.{length, get_or, take, drop, set, length-set}
 use lib.Seq.{drop-cons, take-take, get_or-take, get_or-set_same, get_or-set_other, take-set-le, drop-set-lt, length-take-le}
 use Rattle.field128.specs.Field128.{words_of}
 
@@ -17,14 +17,6 @@ pub record Spreading (d a : List ℕ) (i : ℕ) : Type 0 where
 module _ (d : List ℕ) (whole : length d ≡ 2 * (length d / 2)) where
   abbrev half : ℕ
   half = length d / 2
-
-  pub spread_start : Spreading d d (length d / 2)
-  spread_start =
-      let g : length d ≤ 2 * half = omega (arith, whole) in
-      let h : length (take half d) ≤ half = omega (arith, length-take-le half d (omega arith)) in
-      let e : drop (2 * half) d ≡ [] = drop_of_length-le d g in
-      let f : drop half (take half d) ≡ [] = drop_of_length-le (take half d) h in
-      record { inside = omega arith; long = refl; front = refl; back = e ∙ ap words_of (sym f) }
 
   -- a turn: word k is stored as element k
   module _ (a : List ℕ) (k : ℕ) (s : Spreading d a (k + 1)) (x : ℕ) (small : x < 2 ^ 64) (is : x ≡ get_or a k 0) where
@@ -82,6 +74,3 @@ module _ (d : List ℕ) (whole : length d ≡ 2 * (length d / 2)) where
       front = front_kept;
       back = words_there ∙ (λ j. x ∷ 0 ∷ s.back j) ∙ sym elements_there;
     }
-
-  pub spread_end : (a : List ℕ) → Spreading d a 0 → a ≡ words_of (take (length d / 2) d)
-  spread_end a s = s.back

@@ -22,11 +22,9 @@ fn write_elements(gradient: &[f64], scale: f64, frac_bits: u64, row: &mut [u64])
     requires row_len { length row.old ≡ 2 * length gradient.now }
     ensures { row.new ≡ words_of (elements p128 frac_bits gradient.now) }
 {
-    let mut k = 0;
-    while k < gradient.len() {
-        let e = doubles128::element_of(gradient[k], scale, frac_bits);
+    for (k, &x) in gradient.iter().enumerate() {
+        let e = doubles128::element_of(x, scale, frac_bits);
         rows128::store(row, k, e);
-        k += 1;
     }
 }
 
@@ -43,12 +41,9 @@ fn spread(row: &mut [u64])
     requires { Whole row.old }
     ensures { row.new ≡ words_of (take (length row.old / 2) row.old) }
 {
-    let mut i = row.len() / 2;
-    while 0 < i {
-        let last = i - 1;
-        let e = widened(row[last]);
-        rows128::store(row, last, e);
-        i = last;
+    for i in (0..row.len() / 2).rev() {
+        let e = widened(row[i]);
+        rows128::store(row, i, e);
     }
 }
 

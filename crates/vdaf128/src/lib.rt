@@ -75,10 +75,8 @@ fn count_large(left: &[u64], right: &[u64]) -> u64
 {
     let n = left.len() / 2;
     let mut count = 0;
-    let mut i = 0;
-    while i < n {
+    for i in 0..n {
         count += doubles128::size_flag(sum_at(left, right, i));
-        i += 1;
     }
     count
 }
@@ -90,8 +88,7 @@ fn search_sizes(left: &[u64], right: &[u64]) -> Answer
     ensures { result ≡ sizes_rule p128 size_limit128 0 (add_rows p128 (elements_of left.now) (elements_of right.now)) }
 {
     let n = left.len() / 2;
-    let mut i = 0;
-    while i < n {
+    for i in 0..n {
         let answer = doubles128::check_size(sum_at(left, right, i));
         if answer.number != 0 {
             return Answer {
@@ -99,7 +96,6 @@ fn search_sizes(left: &[u64], right: &[u64]) -> Answer
                 place: i as u64,
             };
         }
-        i += 1;
     }
     Answer::accepted()
 }
@@ -139,10 +135,8 @@ fn decode_sums(left: &[u64], right: &[u64], scale: f64, frac_bits: u64, decoded:
     requires scale_value { scale ≡ power frac_bits }
     ensures { decoded.new ≡ decoded_sums p128 frac_bits (elements_of left.now) (elements_of right.now) }
 {
-    let mut i = 0;
-    while i < decoded.len() {
+    for i in 0..decoded.len() {
         decoded[i] = doubles128::decode(sum_at(left, right, i), scale, frac_bits);
-        i += 1;
     }
 }
 

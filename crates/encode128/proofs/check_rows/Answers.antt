@@ -15,6 +15,3 @@ pub check_coordinates-coordinates-requires : goal.check_coordinates-coordinates-
 check_coordinates-coordinates-requires c =
     let d = c.requires in
     scale_is d.param _ d.is
-
-pub returns : goal.returns
-returns c = rw (c.or-4.ensures, c.or-3.ensures, c.or-2.ensures, c.or.ensures, c.check_gradient_len-gradient_len.ensures, c.check_coordinates-coordinates.ensures, c.check_len-row_4.ensures, c.check_len-row_3.ensures)

@@ -12,7 +12,7 @@ use Rattle.flp.specs.Encode.{true_sq_norm_of, encode_rules}
 use Rattle.params128.specs.Field128.{Field128}
 use Rattle.params128.proofs.Limits.{derivable_128}
 use Rattle.encode.proofs.Encoding.{fraction_is, stream_is, early_is, early_refused, inputs_refused, early_met}
-use Rattle.encode128.proofs.Found.{met_rules, coordinates_fit, tests, asked, below, exact, room_for, whole}
+use Rattle.encode128.proofs.Found.{met_rules, tests, asked, below, exact, room_for, whole}
 use Rattle.encode128.proofs.encode_in.Lts as lts
 use Rattle.encode128.proofs.encode_in.Reads as reads
 use Rattle.encode128.proofs.encode_in.Tie as tie
@@ -39,12 +39,12 @@ derived : (c : After-new-pine) → FromDerivable c.new-pine.result
 derived c = record { param = _; derivable = derivable_128 (passed c.before); is = c.new-pine.ensures }
 
 -- the answer by the rules up to 9
-early : (c : After-check_rows-early) → let s = c in c.check_rows-early.result ≡ in_order (take 6 (encode_rules Field128 s.args.param s.args.gradient.now s.args.stream.now s.args.measurement.now s.args.results.now))
+early : (c : After-check_rows-early) → c.check_rows-early.result ≡ in_order (take 6 (encode_rules Field128 c.args.param c.args.gradient.now c.args.stream.now c.args.measurement.now c.args.results.now))
 early c =
     early_is Field128 c.args.param c.args.gradient.now c.args.stream.now c.args.measurement.now c.args.results.now _ c.new-pine.ensures _ _ (ap (λ (a : Answer). a.number) (passed c.before.before.before.before)) (c.check_len-row_2.ensures ∙ ap (λ (n : ℕ). row_rule 2 (length c.args.stream.now) n) (c.stream_len.ensures ∙ stream_is _ _ c.new-pine.ensures)) c.check_rows-early.ensures
 
 -- they are met
-met : (c : Else-early-ne0) → let s = c in in_order (take 6 (encode_rules Field128 s.args.param s.args.gradient.now s.args.stream.now s.args.measurement.now s.args.results.now)) ≡ accepted
+met : (c : Else-early-ne0) → in_order (take 6 (encode_rules Field128 c.args.param c.args.gradient.now c.args.stream.now c.args.measurement.now c.args.results.now)) ≡ accepted
 met c =
     early_met Field128 c.args.param c.args.gradient.now c.args.stream.now c.args.measurement.now c.args.results.now _ (early c.before.before) c.if-early-ne0.false
 
@@ -64,10 +64,6 @@ check_rows-early-requires c = derived c.before.before.before
 pub returns-then-early-ne0 : goal.returns-then-early-ne0
 returns-then-early-ne0 c =
     early_refused Field128 c.args.param c.args.gradient.now c.args.stream.now c.args.measurement.now c.args.results.now _ (early c.before.before.before) c.if-early-ne0.true
-
-pub overflow_add-per : goal.overflow_add-per
-overflow_add-per c =
-    record { fits = coordinates_fit c.args.param c.args.gradient.now c.args.stream.now c.args.measurement.now c.args.results.now c.args.found.now (met c.before) c.requires.0 }
 
 pub norm_and_tests-norm-requires : goal.norm_and_tests-norm-requires
 norm_and_tests-norm-requires c =

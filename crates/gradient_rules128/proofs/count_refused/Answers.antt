@@ -1,8 +1,6 @@
 -- `gradient_rules128::count_refused` meets its contract. The invariant: as long as none is counted, the answer for the gradient is that for the rest. Assumes nothing.
 use mathlib.Core.Path.{refl}
-use Prim.Native.Nat.{◌-◌}
 use native.Mathlib.Omega.{arith}
-use borrow.Author.Rules.{rules}
 use lib.ListN.{get_or}
 use lib.Ieee.{nan}
 use Rattle.doubles.specs.Doubles.{coordinate_rule}
@@ -10,22 +8,13 @@ use Rattle.doubles128.specs.Doubles128.{floor_limit128}
 use Rattle.gradient_rules.proofs.Searches.{coordinates_next, coordinates_end}
 use Rattle.gradient_rules128.proofs.count_refused.Goals as goal
 
-pub loop-i-init : goal.loop-i-init
-loop-i-init c = (search rules, search rules, λ z. refl)
-
-pub refused-count-requires : goal.refused-count-requires
-refused-count-requires c = c.requires
-
-pub overflow_add-count : goal.overflow_add-count
-overflow_add-count c = omega (arith, c.refused-count.ensures.0)
-
-pub loop-i-preserved : goal.loop-i-preserved
-loop-i-preserved c =
+pub loop-x-preserved : goal.loop-x-preserved
+loop-x-preserved c =
     let q = c.refused-count.ensures in
     let xs = c.args.gradient.now in
     let f = c.args.frac_bits in
-    (omega arith, omega (arith, q.0), λ z. coordinates_next floor_limit128 f nan xs c.loop-i.i (omega arith) (c.loop-i.invariant.2 (omega arith)) (coordinate_rule floor_limit128 (get_or xs c.loop-i.i nan) f) refl (q.1 (omega arith)))
+    (omega (arith, q.0), λ z. coordinates_next floor_limit128 f nan xs c.loop-x.x-index (omega arith) (c.loop-x.invariant.1 (omega arith)) (coordinate_rule floor_limit128 (get_or xs c.loop-x.x-index nan) f) refl (q.1 (omega arith)))
 
 pub returns : goal.returns
 returns c =
-    λ z. coordinates_end floor_limit128 c.args.frac_bits c.args.gradient.now c.loop-i.i (omega arith) (c.loop-i.invariant.2 z)
+    λ z. coordinates_end floor_limit128 c.args.frac_bits c.args.gradient.now c.loop-x.x-index (omega arith) (c.loop-x.invariant.1 z)

@@ -1,7 +1,7 @@
 -- `measurement128::write_elements` meets its contract. Assumes nothing.
-use mathlib.Core.Path.{◌≡◌, refl, sym, subst, ◌∙◌}
+use mathlib.Core.Path.{◌≡◌, sym, subst, ◌∙◌}
 use mathlib.Core.List.{List}
-use Prim.Native.Nat.{ℕ, ◌+◌, ◌-◌, ◌*◌}
+use Prim.Native.Nat.{ℕ, ◌+◌, ◌*◌}
 use native.Mathlib.Omega.{arith}
 use borrow.Author.Rules.{rules}
 use lib.ListN.{length}
@@ -22,9 +22,6 @@ fits f g d e =
     let w = whole_twice d (length g) e in
     (w.0, (w.1, length_elements p128 f g ∙ sym w.1))
 
-pub loop-k-init : goal.loop-k-init
-loop-k-init c = (omega arith, (omega arith, refl, refl))
-
 pub element_of-e-requires : goal.element_of-e-requires
 element_of-e-requires c =
     record {
@@ -36,7 +33,7 @@ pub store-requires : goal.store-requires
 store-requires c =
     let d = c.args.row.now in
     let w = fits c.args.frac_bits c.args.gradient.now d c.requires.row_len in
-    omega (arith, same_elements (elements p128 c.args.frac_bits c.args.gradient.now) d c.loop-k.row c.loop-k.k w.0 w.1.1 c.loop-k.invariant.1, w.1.0)
+    omega (arith, same_elements (elements p128 c.args.frac_bits c.args.gradient.now) d c.loop-k.row c.loop-k.k w.0 w.1.1 c.loop-k.invariant, w.1.0)
 
 pub loop-k-preserved : goal.loop-k-preserved
 loop-k-preserved c =
@@ -45,12 +42,9 @@ loop-k-preserved c =
     let d = c.args.row.now in
     let w = fits f g d c.requires.row_len in
     let is = c.element_of-e.ensures ∙ sym (elements_at p128 f nan g c.loop-k.k (omega arith)) in
-    (omega arith, subst (λ (a : List ℕ). Walking (words_of (elements p128 f g)) d a (2 * (c.loop-k.k + 1))) (sym c.store.ensures) (element_next (elements p128 f g) d c.loop-k.row c.loop-k.k w.0 w.1.1 c.loop-k.invariant.1 (omega (arith, w.1.0)) c.element_of-e.result.low c.element_of-e.result.high (search rules) is))
-
-pub shape_of-row : goal.shape_of-row
-shape_of-row c = c.loop-k.invariant.1.1
+    subst (λ (a : List ℕ). Walking (words_of (elements p128 f g)) d a (2 * (c.loop-k.k + 1))) (sym c.store.ensures) (element_next (elements p128 f g) d c.loop-k.row c.loop-k.k w.0 w.1.1 c.loop-k.invariant (omega (arith, w.1.0)) c.element_of-e.result.low c.element_of-e.result.high (search rules) is)
 
 pub returns : goal.returns
 returns c =
     let w = fits c.args.frac_bits c.args.gradient.now c.args.row.now c.requires.row_len in
-    words_end (elements p128 c.args.frac_bits c.args.gradient.now) c.args.row.now c.loop-k.row c.loop-k.k w.0 w.1.1 c.loop-k.invariant.1 (omega (arith, w.1.0))
+    words_end (elements p128 c.args.frac_bits c.args.gradient.now) c.args.row.now c.loop-k.row c.loop-k.k w.0 w.1.1 c.loop-k.invariant (omega (arith, w.1.0))

@@ -1,7 +1,7 @@
 -- `vdaf128::count_large` meets its contract. The invariant: as long as none is counted, the answer for the sums is that for the rest. Assumes nothing.
 use mathlib.Core.Path.{◌≡◌}
-use Prim.Native.Nat.{◌-◌, ◌/◌, ◌≤◌}
-use lib.ListN.{length, drop}
+use Prim.Native.Nat.{◌≤◌}
+use lib.ListN.{drop}
 use Rattle.field128.specs.Field128.{p128}
 use Rattle.doubles128.specs.Doubles128.{size_limit128}
 use Rattle.vdaf.specs.Aggregates.{sizes_rule}
@@ -9,7 +9,4 @@ use Rattle.vdaf128.proofs.Sizes.{sums}
 use Rattle.vdaf128.proofs.count_large.Given as goal
 
 abbrev pub invariant-loop-i : goal.invariant-loop-i
-invariant-loop-i l = (l.i ≤ length l.left / 2) × (l.count ≤ l.i) × (l.count ≡ 0 → sizes_rule p128 size_limit128 0 (sums l.left l.right) ≡ sizes_rule p128 size_limit128 l.i (drop l.i (sums l.left l.right)))
-
-abbrev pub decreases-loop-i : goal.decreases-loop-i
-decreases-loop-i l = length l.left / 2 - l.i
+invariant-loop-i l = (l.count ≤ l.i) × (l.count ≡ 0 → sizes_rule p128 size_limit128 0 (sums l.left l.right) ≡ sizes_rule p128 size_limit128 l.i (drop l.i (sums l.left l.right)))

@@ -1,10 +1,9 @@
 -- `vdaf128::decode_sums` meets its contract. Assumes nothing.
-use mathlib.Core.Path.{◌≡◌, refl, sym, ◌∙◌}
+use mathlib.Core.Path.{◌≡◌, sym, ◌∙◌}
 use mathlib.Core.Bool.{false}
 use mathlib.Core.List.{List}
-use Prim.Native.Nat.{ℕ, ◌+◌, ◌-◌, ◌*◌, ◌/◌, ◌<◌}
+use Prim.Native.Nat.{ℕ, ◌+◌, ◌*◌, ◌/◌, ◌<◌}
 use native.Mathlib.Omega.{arith}
-use borrow.Author.Rules.{rules}
 use lib.ListN.{length, get_or, set}
 use lib.Ieee.{Float}
 use Rattle.doubles.specs.Doubles.{plus_zero, decoded}
@@ -38,9 +37,6 @@ module _ (f : ℕ) (l r : List ℕ) (d : List Float) (same : (length l ≡ 2 * l
       let k : i < length (elements_of l) = (sum_inside l r rows_same i (omega (arith, half, inv.1))).0 in
       walking_next plus_zero (decoded_sums p128 f (elements_of l) (elements_of r)) d a i y long inv h (g ∙ rw e (sym (get_or-decoded_sums p128 f (elements_of l) (elements_of r) (alike l r rows_same) plus_zero i k)))
 
-pub loop-i-init : goal.loop-i-init
-loop-i-init c = (search rules, refl, refl)
-
 pub sum_at-requires : goal.sum_at-requires
 sum_at-requires c =
     record {
@@ -59,9 +55,6 @@ decode-requires c =
 pub loop-i-preserved : goal.loop-i-preserved
 loop-i-preserved c =
     turn c.args.frac_bits c.args.left.now c.args.right.now c.args.decoded.now c.requires.left_len c.loop-i.decoded c.loop-i.i c.loop-i.invariant (omega arith) (number_of c.sum_at.result) c.decode.result c.sum_at.ensures c.decode.ensures
-
-pub shape_of-decoded : goal.shape_of-decoded
-shape_of-decoded c = c.loop-i.invariant.1
 
 pub returns : goal.returns
 returns c =

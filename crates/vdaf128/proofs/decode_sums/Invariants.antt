@@ -1,9 +1,7 @@
 -- `vdaf128::decode_sums` meets its contract. Assumes nothing.
 use mathlib.Core.List.{List}
-use Prim.Native.Nat.{ℕ, ◌-◌}
-use lib.ListN.{length}
+use Prim.Native.Nat.{ℕ}
 use lib.Ieee.{Float}
-use Rattle.doubles.specs.Doubles.{decoded}
 use Rattle.rows.proofs.Walk.{Walking}
 use Rattle.field128.specs.Field128.{p128, elements_of}
 use Rattle.vdaf.specs.Aggregates.{decoded_sums}
@@ -15,6 +13,3 @@ Inv f l r d a i = Walking (decoded_sums p128 f (elements_of l) (elements_of r)) 
 
 abbrev pub invariant-loop-i : goal.invariant-loop-i
 invariant-loop-i l = Inv l.frac_bits l.left l.right l.initial.decoded l.decoded l.i
-
-abbrev pub decreases-loop-i : goal.decreases-loop-i
-decreases-loop-i l = length l.initial.decoded - l.i

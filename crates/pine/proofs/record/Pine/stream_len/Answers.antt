@@ -1,6 +1,5 @@
 -- `pine::record::Pine::stream_len` meets its contract. Assumes nothing.
-use mathlib.Core.Path.{ap}
-use Prim.Native.Nat.{ℕ, ◌*◌, ◌≤◌}
+use Prim.Native.Nat.{◌≤◌}
 use native.Mathlib.Nat.{mul-le-mul, lt_of_le_of_lt}
 use native.Mathlib.Omega.{arith}
 use lib.Dec.{lit<}
@@ -15,6 +14,3 @@ overflow_mul-result c =
     let k = small c.args.self c.requires in
     let h : c.chunk_count.result ≤ 65536 = omega (arith, c.chunk_count.ensures, k.dimension) in
     record { fits = lt_of_le_of_lt (mul-le-mul k.tests h) (lit< tt) }
-
-pub returns : goal.returns
-returns c = ap (λ (n : ℕ). c.args.self.num_wr_tests * n) c.chunk_count.ensures
