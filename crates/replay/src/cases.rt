@@ -1,5 +1,5 @@
 // The commands, and how a line is answered.
-use crate::{cuts, loads, numbers};
+use crate::{cuts, loads, values};
 use answers::{Answered, CaseError};
 use case_inputs::Case;
 use lines::field::Field;
@@ -75,9 +75,9 @@ impl Command {
 
     fn answer<W: Write>(self, case: Case<'_>, out: &mut W) -> Answered {
         match self {
-            Command::Params(field) => numbers::params(field, case, out),
-            Command::Coord(field) => numbers::coord(field, case, out),
-            Command::Decode(field) => numbers::decode(field, case, out),
+            Command::Params(field) => values::params(field, case, out),
+            Command::Coord(field) => values::coord(field, case, out),
+            Command::Decode(field) => values::decode(field, case, out),
             Command::FileRead => file_cases::read(case, out),
             Command::FileWrite => file_cases::write(case, out),
             Command::FileMax => file_cases::max(case, out),

@@ -9,7 +9,7 @@ use std::io::{Read, Write};
 mod cases;
 mod cuts;
 mod loads;
-mod numbers;
+mod values;
 
 ghost use Rattle.std.specs.Prelude.{◌<◌, ◌≤◌, length, IfOk, IfSome};
 
@@ -39,6 +39,7 @@ fn answer_lines<W: Write>(bytes: &[u8], progress: Progress, out: &mut W) -> io::
     let mut rest = bytes;
     let mut searched = progress.have;
     let mut skipping = progress.skipping;
+    // By no split of all bytes, since the first of them are searched already.
     while let Some(end) = line_end(rest, searched) {
         if !skipping {
             cases::answer(&rest[..end], out)?;
@@ -70,7 +71,7 @@ fn replay<R: Read, W: Write>(reader: &mut R, buffer: &mut [u8], out: &mut W) -> 
         }
         progress = answer_lines(&buffer[..end], progress, out)?;
         if progress.have == buffer.len() {
-            // The line is answered at once, and what follows of it is skipped.
+            // A line fills the whole buffer: it is answered at once, and what follows of it is skipped.
             if !progress.skipping {
                 cases::bad(out)?;
             }
