@@ -2,7 +2,7 @@
 // double, and rows that are lent.
 #![tactic(auto)]
 
+pub mod field;
 pub mod patterns;
 pub mod row;
-pub mod wide;
 pub mod words;

@@ -15,9 +15,9 @@ pub fn double_of(pattern: u64) -> f64
 }
 
 pub fn pattern_of(x: f64) -> u64 {
-    if x == x {
-        f64::to_bits(x)
-    } else {
+    if x.is_nan() {
         0x7ff8_0000_0000_0000
+    } else {
+        x.to_bits()
     }
 }

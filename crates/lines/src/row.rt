@@ -1,67 +1,43 @@
-// What a lent row holds before a call, and whether it holds it still.
+// Rows that are lent to a call: what one holds before the call, and whether it holds it still.
+use crate::words::Malformed;
 
-const FILLED: u64 = 0xa5a5_a5a5_a5a5_a5a5;
-
-const FILLED_DOUBLE: f64 = -1234.5;
-
-pub fn fill(row: &mut [u64]) {
-    let mut i = 0;
-    while i < row.len() {
-        row[i] = FILLED;
-        i += 1;
-    }
+// A type of elements that rows are lent of.
+pub trait Lendable: Copy + PartialEq {
+    // What each element of a lent row is before the call.
+    const MARK: Self;
 }
 
-pub fn is_filled(row: &[u64]) -> bool {
-    let mut i = 0;
-    while i < row.len() {
-        if row[i] != FILLED {
-            return false;
-        }
-        i += 1;
-    }
-    true
+impl Lendable for u8 {
+    const MARK: u8 = 0xa5;
 }
 
-pub fn fill_doubles(row: &mut [f64]) {
-    let mut i = 0;
-    while i < row.len() {
-        row[i] = FILLED_DOUBLE;
-        i += 1;
-    }
+impl Lendable for u64 {
+    const MARK: u64 = 0xa5a5_a5a5_a5a5_a5a5;
 }
 
-pub fn is_filled_doubles(row: &[f64]) -> bool {
-    let mut i = 0;
-    while i < row.len() {
-        if row[i] != FILLED_DOUBLE {
-            return false;
-        }
-        i += 1;
-    }
-    true
+impl Lendable for f64 {
+    const MARK: f64 = -1234.5;
 }
 
-// Copies as much as both rows have.
-pub fn copy(from: &[u64], to: &mut [u64]) {
-    let mut i = 0;
-    while i < from.len() && i < to.len() {
-        to[i] = from[i];
-        i += 1;
-    }
+pub fn is_filled<T: Lendable>(row: &[T]) -> bool {
+    row.iter().all(|x| *x == T::MARK)
 }
 
-// Whether a row begins with the elements of another.
-pub fn begins(row: &[u64], start: &[u64]) -> bool {
-    if row.len() < start.len() {
-        return false;
-    }
-    let mut i = 0;
-    while i < start.len() {
-        if row[i] != start[i] {
-            return false;
-        }
-        i += 1;
-    }
-    true
+// So many elements at the start of a row, if it has them.
+pub fn first<T>(row: &mut [T], len: u64) -> Result<&mut [T], Malformed> {
+    row.get_mut(..usize::try_from(len)?).ok_or(Malformed)
+}
+
+// So many elements at the start of a row, if it has them, filled for a call.
+pub fn lend<T: Lendable>(row: &mut [T], len: u64) -> Result<&mut [T], Malformed> {
+    let lent = first(row, len)?;
+    lent.fill_with(|| T::MARK);
+    Ok(lent)
+}
+
+// A copy of a row at the start of another, if that has room.
+pub fn copy<'a>(from: &[u64], to: &'a mut [u64]) -> Result<&'a mut [u64], Malformed> {
+    let copied = to.get_mut(..from.len()).ok_or(Malformed)?;
+    copied.copy_from_slice(from);
+    Ok(copied)
 }

@@ -1,332 +1,188 @@
 // Reads the words of a line. Runs of ASCII whitespace part them.
-//
-// A cursor goes by value from reader to reader. At the first word that is not of the form asked for,
-// its ok becomes false and stays so, whatever the readers after it find. So a command reads all its
-// words and then tests ok once.
-ghost use Rattle.std.specs.Prelude.{◌*◌, ◌<◌, ◌≤◌, length};
-ghost use Rattle.lines.specs.Rows.{Counts};
+ghost use Rattle.std.specs.Prelude.{◌≤◌};
 
+use crate::field::Field;
 use crate::patterns::double_of;
+use crate::row;
+use std::num::{ParseIntError, TryFromIntError};
+use std::str;
+use std::str::Utf8Error;
 
+// A word is missing, or is not of the form asked for, or is one too many.
 #[derive(Clone, Copy)]
-pub struct Cursor {
-    // Where the next word is looked for.
-    pub at: usize,
-    pub ok: bool,
+pub struct Malformed;
+
+impl From<Utf8Error> for Malformed {
+    fn from(_error: Utf8Error) -> Malformed {
+        Malformed
+    }
 }
 
-// The part of a line from start to end, empty where no word is left.
+impl From<ParseIntError> for Malformed {
+    fn from(_error: ParseIntError) -> Malformed {
+        Malformed
+    }
+}
+
+impl From<TryFromIntError> for Malformed {
+    fn from(_error: TryFromIntError) -> Malformed {
+        Malformed
+    }
+}
+
+// The number below 2^128 that a word's digits stand for.
+fn number(word: &[u8], base: u32) -> Result<u128, Malformed>
+    requires least { 2 ≤ base }
+    requires most { base ≤ 36 }
+{
+    // The library would take the sign.
+    if word.starts_with(b"+") {
+        return Err(Malformed);
+    }
+    Ok(u128::from_str_radix(str::from_utf8(word)?, base)?)
+}
+
+fn decimal(word: &[u8]) -> Result<u64, Malformed> {
+    Ok(u64::try_from(number(word, 10)?)?)
+}
+
+// The words that are still to be read.
 #[derive(Clone, Copy)]
-pub struct Word {
-    pub start: usize,
-    pub end: usize,
+pub struct Words<'a> {
+    rest: &'a [u8],
 }
 
-#[derive(Clone, Copy)]
-pub struct Number {
-    pub value: u64,
-    pub next: Cursor,
-}
-
-// How many elements were put at the start of a lent row.
-#[derive(Clone, Copy)]
-pub struct Row {
-    pub len: usize,
-    pub next: Cursor,
-}
-
-// What the digits of a word stand for.
-#[derive(Clone, Copy)]
-struct Digits {
-    value: u64,
-    ok: bool,
-}
-
-impl Cursor {
-    pub fn new() -> Cursor {
-        Cursor { at: 0, ok: true }
+impl<'a> Words<'a> {
+    pub fn of(line: &'a [u8]) -> Words<'a> {
+        Words { rest: line }
     }
 
-    // The cursor past a word that ends at `at` and, if ok, has the form asked for.
-    pub fn past(self, at: usize, ok: bool) -> Cursor {
-        Cursor {
-            at,
-            ok: self.ok & ok,
+    // The next word, if one is left.
+    pub fn word(&mut self) -> Option<&'a [u8]> {
+        let text = self.rest.trim_ascii_start();
+        let end = text
+            .iter()
+            .position(|b| b.is_ascii_whitespace())
+            .unwrap_or(text.len());
+        let (word, rest) = text.split_at(end);
+        self.rest = rest;
+        if word.is_empty() { None } else { Some(word) }
+    }
+
+    pub fn decimal(&mut self) -> Result<u64, Malformed> {
+        decimal(self.word().ok_or(Malformed)?)
+    }
+
+    // A hexadecimal number below 2^128. 0x may stand before it.
+    pub fn wide_hex(&mut self) -> Result<u128, Malformed> {
+        let word = self.word().ok_or(Malformed)?;
+        number(word.strip_prefix(b"0x").unwrap_or(word), 16)
+    }
+
+    // A hexadecimal number below 2^64.
+    pub fn hex(&mut self) -> Result<u64, Malformed> {
+        Ok(u64::try_from(self.wide_hex()?)?)
+    }
+
+    pub fn double(&mut self) -> Result<f64, Malformed> {
+        Ok(double_of(self.hex()?))
+    }
+
+    // A count, and as many items, which fill the start of a row.
+    fn items<'r, T: Drop, F: Fn(&mut Words<'a>) -> Result<T, Malformed>>(
+        &mut self,
+        row: &'r mut [T],
+        item: F,
+    ) -> Result<&'r mut [T], Malformed>
+    where
+        F: Drop,
+        requires { F.IsAlwaysCallable item }
+    {
+        let read = row::first(row, self.decimal()?)?;
+        for place in read.iter_mut() {
+            *place = item(self)?;
+        }
+        Ok(read)
+    }
+
+    // A count, and as many hexadecimal numbers, which fill the start of a row.
+    pub fn elements<'r>(&mut self, row: &'r mut [u64]) -> Result<&'r mut [u64], Malformed> {
+        self.items(row, |words| words.hex())
+    }
+
+    // The same of numbers of two words. Their words may also stand one by one behind `words`, where
+    // there may be an odd number of them.
+    fn wide_elements<'r>(&mut self, row: &'r mut [u64]) -> Result<&'r mut [u64], Malformed> {
+        let mut ahead = *self;
+        if ahead.word() == Some(b"words".as_slice()) {
+            *self = ahead;
+            return self.elements(row);
+        }
+        let (pairs, _) = row.as_chunks_mut::<2>();
+        let read = self.items(pairs, |words| Ok(halves(words.wide_hex()?)))?;
+        Ok(read.as_flattened_mut())
+    }
+
+    pub fn elements_of<'r>(
+        &mut self,
+        field: Field,
+        row: &'r mut [u64],
+    ) -> Result<&'r mut [u64], Malformed> {
+        match field {
+            Field::Field64 => self.elements(row),
+            Field::Field128 => self.wide_elements(row),
         }
     }
-}
 
-impl Digits {
-    fn none() -> Digits {
-        Digits {
-            value: 0,
-            ok: false,
-        }
+    // A count, and the bit patterns of as many doubles, which fill the start of a row.
+    pub fn doubles<'r>(&mut self, row: &'r mut [f64]) -> Result<&'r mut [f64], Malformed> {
+        self.items(row, |words| words.double())
     }
-}
 
-fn is_space(b: u8) -> bool {
-    match b {
-        b' ' | b'\t' | b'\n' | b'\r' | b'\x0c' => true,
-        _ => false,
-    }
-}
-
-// The first place from `at` on that has whitespace, or that has none, as space says; the line's end
-// where there is no such place.
-fn find(s: &[u8], at: usize, space: bool) -> usize
-    requires { at ≤ length s.now }
-    ensures { (at ≤ result) × (result ≤ length s.now) }
-{
-    let mut i = at;
-    while i < s.len() {
-        if is_space(s[i]) == space {
-            return i;
-        }
-        i += 1;
-    }
-    s.len()
-}
-
-pub fn next_word(s: &[u8], c: Cursor) -> Word
-    ensures { (result.start ≤ result.end) × (result.end ≤ length s.now) }
-{
-    let at = c.at;
-    // No reader leaves its cursor there.
-    if s.len() < at {
-        return Word { start: 0, end: 0 };
-    }
-    let start = find(s, at, false);
-    let end = find(s, start, true);
-    Word { start, end }
-}
-
-// The value of a hexadecimal digit, or 16.
-pub fn digit(b: u8) -> u64
-    ensures { result ≤ 16 }
-{
-    match b {
-        b'0'..=b'9' => (b - b'0') as u64,
-        b'a'..=b'f' => (b - b'a') as u64 + 10,
-        b'A'..=b'F' => (b - b'A') as u64 + 10,
-        _ => 16,
-    }
-}
-
-// The number that a word's digits stand for, if they are digits of the base and it is below 2^64.
-fn parse(w: &[u8], base: u64) -> Digits
-    requires { (0 < base) × (base ≤ 16) }
-{
-    let most = u64::MAX / base;
-    let mut value: u64 = 0;
-    let mut i = 0;
-    while i < w.len() {
-        let d = digit(w[i]);
-        if base <= d {
-            return Digits::none();
-        }
-        if most < value {
-            return Digits::none();
-        }
-        let shifted = value * base;
-        if u64::MAX - shifted < d {
-            return Digits::none();
-        }
-        value = shifted + d;
-        i += 1;
-    }
-    Digits {
-        value,
-        ok: 0 < w.len(),
-    }
-}
-
-// A word without the 0x that may stand before it.
-pub fn after_0x(w: &[u8]) -> &[u8] {
-    if 2 <= w.len() {
-        if w[0] == b'0' {
-            if w[1] == b'x' {
-                return &w[2..];
-            }
-        }
-    }
-    w
-}
-
-// A decimal number below 2^64.
-pub fn decimal(s: &[u8], c: Cursor) -> Number {
-    let w = next_word(s, c);
-    let start = w.start;
-    let end = w.end;
-    let d = parse(&s[start..end], 10);
-    Number {
-        value: d.value,
-        next: c.past(end, d.ok),
-    }
-}
-
-// A hexadecimal number below 2^64.
-pub fn hex(s: &[u8], c: Cursor) -> Number {
-    let w = next_word(s, c);
-    let start = w.start;
-    let end = w.end;
-    let d = parse(after_0x(&s[start..end]), 16);
-    Number {
-        value: d.value,
-        next: c.past(end, d.ok),
-    }
-}
-
-// The count before a row, which may not be above most.
-pub fn count(s: &[u8], c: Cursor, most: usize) -> Row
-    ensures { result.len ≤ most }
-{
-    let n = decimal(s, c);
-    let len = n.value;
-    let next = n.next;
-    if len <= most as u64 {
-        Row {
-            len: len as usize,
-            next,
-        }
-    } else {
-        Row {
-            len: 0,
-            next: next.past(next.at, false),
-        }
-    }
-}
-
-// Fills the first len elements of a row.
-fn fill_elements(s: &[u8], c: Cursor, row: &mut [u64], len: usize) -> Cursor
-    requires { len ≤ length row.old }
-{
-    let mut next = c;
-    let mut i = 0;
-    while i < len {
-        let n = hex(s, next);
-        row[i] = n.value;
-        next = n.next;
-        i += 1;
-    }
-    next
-}
-
-// Fills the first len elements of a row.
-fn fill_doubles(s: &[u8], c: Cursor, row: &mut [f64], len: usize) -> Cursor
-    requires { len ≤ length row.old }
-{
-    let mut next = c;
-    let mut i = 0;
-    while i < len {
-        let n = hex(s, next);
-        row[i] = double_of(n.value);
-        next = n.next;
-        i += 1;
-    }
-    next
-}
-
-// A count, and as many hexadecimal numbers.
-pub fn elements(s: &[u8], c: Cursor, row: &mut [u64]) -> Row
-    ensures { Counts result.len row.new }
-{
-    let counted = count(s, c, row.len());
-    let len = counted.len;
-    let next = fill_elements(s, counted.next, row, len);
-    Row { len, next }
-}
-
-// A count, and the bit patterns of as many doubles.
-pub fn doubles(s: &[u8], c: Cursor, row: &mut [f64]) -> Row
-    ensures { Counts result.len row.new }
-{
-    let counted = count(s, c, row.len());
-    let len = counted.len;
-    let next = fill_doubles(s, counted.next, row, len);
-    Row { len, next }
-}
-
-// Fills the first len bytes of a row, from two digits each, and answers whether all were digits.
-fn fill_bytes(digits: &[u8], row: &mut [u8], len: usize) -> bool
-    requires { (len * 2 ≤ length digits.now) × (len ≤ length row.old) }
-{
-    let mut ok = true;
-    let mut i = 0;
-    while i < len {
-        let high = digit(digits[i * 2]);
-        let low = digit(digits[i * 2 + 1]);
-        ok = ok & (high < 16) & (low < 16);
-        row[i] = (high % 16 * 16 + low % 16) as u8;
-        i += 1;
-    }
-    ok
-}
-
-// Two hexadecimal digits a byte, or - for no bytes.
-pub fn bytes(s: &[u8], c: Cursor, row: &mut [u8]) -> Row
-    ensures { Counts result.len row.new }
-{
-    let w = next_word(s, c);
-    let start = w.start;
-    let end = w.end;
-    let digits = &s[start..end];
-    let len = digits.len() / 2;
-    if row.len() < len {
-        return Row {
-            len: 0,
-            next: c.past(end, false),
+    // Two hexadecimal digits a byte, or - for no bytes, which fill the start of a row.
+    pub fn bytes<'r>(&mut self, row: &'r mut [u8]) -> Result<&'r mut [u8], Malformed> {
+        let digits = match self.word() {
+            None => return Err(Malformed),
+            Some(b"-") => b"",
+            Some(digits) => digits,
         };
-    }
-    let paired = 0 < len && digits.len() % 2 == 0 || digits == b"-".as_slice();
-    let ok = fill_bytes(digits, row, len);
-    Row {
-        len,
-        next: c.past(end, ok & paired),
-    }
-}
-
-// Whether no word is left.
-fn is_done(s: &[u8], c: Cursor) -> bool {
-    let w = next_word(s, c);
-    w.start == w.end
-}
-
-// Whether all was well, and the line ends here or has the tail `out N..`, which is passed over.
-pub fn ends(s: &[u8], c: Cursor) -> bool {
-    let w = next_word(s, c);
-    let start = w.start;
-    let end = w.end;
-    c.ok & (start == end || &s[start..end] == b"out".as_slice())
-}
-
-fn fill_lens(s: &[u8], c: Cursor, lens: &mut [u64]) -> bool {
-    let mut next = c;
-    let mut i = 0;
-    while i < lens.len() {
-        if is_done(s, next) {
-            return next.ok;
+        let (pairs, []) = digits.as_chunks::<2>() else {
+            return Err(Malformed);
+        };
+        let read = row.get_mut(..pairs.len()).ok_or(Malformed)?;
+        for (byte, pair) in read.iter_mut().zip(pairs) {
+            *byte = u8::try_from(number(pair, 16)?)?;
         }
-        let n = decimal(s, next);
-        lens[i] = n.value;
-        next = n.next;
-        i += 1;
+        Ok(read)
     }
-    next.ok & is_done(s, next)
+
+    // That the line ends here, or has the tail `out N..`, which is passed over.
+    pub fn end(mut self) -> Result<(), Malformed> {
+        match self.word() {
+            None | Some(b"out") => Ok(()),
+            Some(_) => Err(Malformed),
+        }
+    }
+
+    // The same. The numbers of the tail replace those at the start of lens, and there may not be more.
+    pub fn end_with<const N: usize>(mut self, mut lens: [u64; N]) -> Result<[u64; N], Malformed> {
+        self.end()?;
+        // Past `out`.
+        let _ = self.word();
+        for len in &mut lens {
+            let Some(word) = self.word() else {
+                return Ok(lens);
+            };
+            *len = decimal(word)?;
+        }
+        match self.word() {
+            None => Ok(lens),
+            Some(_) => Err(Malformed),
+        }
+    }
 }
 
-// As ends, where the numbers of a tail `out N..` replace those at the start of lens. There may not
-// be more of them than lens has.
-pub fn ends_with_lens(s: &[u8], c: Cursor, lens: &mut [u64]) -> bool {
-    let w = next_word(s, c);
-    let start = w.start;
-    let end = w.end;
-    if start == end {
-        return c.ok;
-    }
-    if &s[start..end] == b"out".as_slice() {
-        fill_lens(s, c.past(end, true), lens)
-    } else {
-        false
-    }
+// The two words of a number, the low one first.
+pub fn halves(n: u128) -> [u64; 2] {
+    [(n & 0xffff_ffff_ffff_ffff) as u64, (n >> 64) as u64]
 }

@@ -1,9 +1,9 @@
--- The line that starts at start ends no earlier. The measure is what is left behind its end.
-use Rattle.std.proofs.Common.{◌-◌, ◌≤◌}
+-- The line that is looked at ends no earlier than what was searched. The measure is what is left.
+use Rattle.std.proofs.Common.{length, ◌≤◌}
 use Rattle.replay.proofs.answer_lines.Given as goal
 
 abbrev pub invariant-loop-end : goal.invariant-loop-end
-invariant-loop-end g l = (l.start ≤ l.end) × (l.start ≤ l.have)
+invariant-loop-end g l = (l.searched ≤ length l.rest) × (length l.rest ≤ length l.bytes)
 
 abbrev pub decreases-loop-end : goal.decreases-loop-end
-decreases-loop-end g l = l.have - l.end
+decreases-loop-end g l = length l.rest

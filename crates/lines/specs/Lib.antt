@@ -1,2 +1,0 @@
--- What the contracts of the readers of rows cite.
-pub mod Rows
