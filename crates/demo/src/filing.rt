@@ -22,6 +22,7 @@ pub struct Sum {
     pub helper: Row,
 }
 
+// Both servers, each with the aggregates of its own shares.
 #[derive(Clone, Copy)]
 pub struct Servers {
     pub leader: Aggregates,
@@ -57,7 +58,7 @@ impl Aggregates {
         check(vdaf::accumulate(param, &mut self.rows[key.index()], gradient))
     }
 
-    // 8. A server merges aggregates: here those of a controller's valves.
+    // 7. A server merges aggregates: here those of a controller's valves.
     fn merged(&self, controller: Controller) -> Result<Row, Refusal> {
         let rows = match controller {
             Controller::First => &self.rows[..VALVES],
@@ -70,7 +71,7 @@ impl Aggregates {
         Ok(total)
     }
 
-    // 9. A grower withdraws: a server takes the gradient part of the share out of the aggregate of its key.
+    // 8. A grower withdraws: a server takes the gradient part of the share out of the aggregate of its key.
     fn withdraw(&mut self, key: Key, share: &[u64]) -> Result<(), Refusal> {
         let gradient = gradient_part(param(), share)?;
         check(vdaf::subtract(param(), &mut self.rows[key.index()], gradient))
@@ -78,17 +79,17 @@ impl Aggregates {
 }
 
 impl Sum {
-    // 7. The two servers' aggregates together give the sum of the gradients.
-    pub fn decode(&self) -> Result<Gradient, Refusal> {
-        let mut decoded = [0.0; DIMENSION];
-        check(vdaf::unshard(param(), &self.leader, &self.helper, &mut decoded))?;
-        Ok(decoded)
-    }
-
     // Where an aggregate that is withdrawn was merged before, each server takes it out of the merged one, too.
     pub fn unmerge(&mut self, other: &Sum) -> Result<(), Refusal> {
         check(vdaf::unmerge(param(), &mut self.leader, &other.leader))?;
         check(vdaf::unmerge(param(), &mut self.helper, &other.helper))
+    }
+
+    // 9. The two servers' aggregates together give the sum of the gradients.
+    pub fn decode(&self) -> Result<Gradient, Refusal> {
+        let mut decoded = [0.0; DIMENSION];
+        check(vdaf::unshard(param(), &self.leader, &self.helper, &mut decoded))?;
+        Ok(decoded)
     }
 }
 
@@ -142,9 +143,8 @@ impl Servers {
     }
 
     fn is_true(&self, key: Key) -> bool {
-        match self.sum(key).decode() {
-            Ok(decoded) => decoded == made_up::gradient(key),
-            Err(_) => false,
-        }
+        self.sum(key)
+            .decode()
+            .is_ok_and(|decoded| decoded == made_up::gradient(key))
     }
 }

@@ -17,7 +17,7 @@ mod trial;
 use crate::day::{AGAIN, Day};
 use crate::day_files::DayFile;
 use crate::filing::Servers;
-use crate::key::{Controller, KEYS, Key};
+use crate::key::{KEYS, Key, VALVES};
 use crate::probe::SquaredNorm;
 use crate::refusal::{Failure, Outcome};
 use crate::report::Side;
@@ -62,28 +62,20 @@ fn show_files<W: Write>(writer: &mut W, leader: &DayFile, helper: &DayFile) -> R
         writer,
         "the two servers' files, by address and valve: {reports} and {helper_reports} reports"
     )?;
-    let shown = Key {
-        controller: Controller::Second,
-        valve: 0,
-    };
-    table::bodies(writer, &contents, &servers, shown)?;
+    table::bodies(writer, &contents, &servers, Key::at(VALVES))?;
     table::print(writer, &contents, &servers)?;
-    sums(writer, &servers)
+    sums(writer, &servers)?;
+    Ok(())
 }
 
-fn show_lengths<W: Write>(
-    writer: &mut W,
-    leader: &DayFile,
-    helper: &DayFile,
-) -> Result<(), Failure> {
+fn show_lengths<W: Write>(writer: &mut W, leader: &DayFile, helper: &DayFile) -> io::Result<()> {
     let leader_len = leader.bytes().len();
     let helper_len = helper.bytes().len();
     let most = day_file::file_max(report::param(), KEYS as u32).len;
     writeln!(
         writer,
         "each server files its shares alone: {leader_len} and {helper_len} bytes, at most {most}"
-    )?;
-    Ok(())
+    )
 }
 
 fn filed<W: Write>(writer: &mut W, day: &Day) -> Result<(), Failure> {
@@ -91,10 +83,7 @@ fn filed<W: Write>(writer: &mut W, day: &Day) -> Result<(), Failure> {
     let helper = DayFile::of(&day.reports, Side::Helper)?;
     show_lengths(writer, &leader, &helper)?;
     show_files(writer, &leader, &helper)?;
-    let key = Key {
-        controller: Controller::First,
-        valve: 2,
-    };
+    let key = Key::at(2);
     let damaged = Outcome {
         result: day.damaged(key, &leader),
         accepted: "filed",
@@ -103,7 +92,7 @@ fn filed<W: Write>(writer: &mut W, day: &Day) -> Result<(), Failure> {
     Ok(())
 }
 
-fn second_day<W: Write>(writer: &mut W, day: &Day) -> Result<(), Failure> {
+fn second_day<W: Write>(writer: &mut W, day: &Day) -> io::Result<()> {
     writeln!(
         writer,
         "day 2: controller 1, valves 1 to {AGAIN}: the same reports, in rows left from the last caller"
@@ -112,17 +101,15 @@ fn second_day<W: Write>(writer: &mut W, day: &Day) -> Result<(), Failure> {
     writeln!(
         writer,
         "{same} of {AGAIN} reports equal, element by element, those made in fresh rows"
-    )?;
-    Ok(())
+    )
 }
 
-fn sums<W: Write>(writer: &mut W, servers: &Servers) -> Result<(), Failure> {
+fn sums<W: Write>(writer: &mut W, servers: &Servers) -> io::Result<()> {
     let equal = servers.true_keys();
     writeln!(
         writer,
         "{equal} of {KEYS} keys: the decoded row equals the true sums in all 3 coordinates"
-    )?;
-    Ok(())
+    )
 }
 
 fn withdrawal<W: Write>(
@@ -175,26 +162,18 @@ fn aggregates<W: Write>(writer: &mut W, day: &Day) -> Result<(), Failure> {
     )?;
     let mut servers = Servers::of(&day.reports)?;
     sums(writer, &servers)?;
-    let ninth = Key {
-        controller: Controller::First,
-        valve: 8,
-    };
-    let tenth = Key {
-        controller: Controller::First,
-        valve: 9,
-    };
+    let tenth = Key::at(9);
     withdrawal(writer, day, &mut servers, tenth)?;
-    trial_block(writer, &mut servers, ninth, tenth)
+    trial_block(writer, &mut servers, Key::at(8), tenth)
 }
 
-fn broken_probe<W: Write>(writer: &mut W) -> Result<(), Failure> {
+fn broken_probe<W: Write>(writer: &mut W) -> io::Result<()> {
     let reduced = probe::encode(SquaredNorm::Reduced);
     let bounded = probe::encode(SquaredNorm::True);
     writeln!(
         writer,
         "a broken probe, whose squared norm modulo p is 0: {reduced}; with the switch for the true one: {bounded}"
-    )?;
-    Ok(())
+    )
 }
 
 fn whole_day<W: Write>(writer: &mut W) -> Result<(), Failure> {

@@ -4,7 +4,7 @@ use crate::report;
 use pine::PineParam;
 
 // Which squared norm is bounded.
-#[derive(Clone, Copy, PartialEq, Eq)]
+#[derive(Clone, Copy)]
 pub enum SquaredNorm {
     // That modulo p alone.
     Reduced,
@@ -18,7 +18,7 @@ pub enum SquaredNorm {
 // 12. The switch asks for the bound of the true squared norm.
 pub fn encode(bounded: SquaredNorm) -> Outcome {
     let param = PineParam {
-        true_sq_norm: bounded == SquaredNorm::True,
+        true_sq_norm: matches!(bounded, SquaredNorm::True),
         ..report::param()
     };
     let gradient = [1073741823.75f64, 16384.0, 0.0];

@@ -47,7 +47,7 @@ pub fn param() -> PineParam {
 }
 
 impl<const N: usize> Report<N> {
-    // Rows that hold nothing but these.
+    // Rows that hold the same throughout.
     pub fn filled(key: Key, element: u64, byte: u8) -> Report<N> {
         Report {
             key,

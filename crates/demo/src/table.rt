@@ -1,7 +1,7 @@
 // The table of a day, from what both servers' files hold: a line for each valve, with both controllers, and
 // one for all valves. Of each sum it shows coordinate 0, as the two servers' bodies give it and as the gradients
 // do, and whether the two rows are equal.
-use crate::day_files::Contents;
+use crate::day_files::{Contents, Entry};
 use crate::filing::Servers;
 use crate::key::{Controller, Key, VALVES};
 use crate::made_up;
@@ -95,10 +95,11 @@ pub fn bodies<W: Write>(
     servers: &Servers,
     key: Key,
 ) -> Result<(), Failure> {
-    let entry = contents.entry(key);
-    let address = entry.address;
-    let valve = entry.valve;
-    let reports = entry.reports;
+    let Entry {
+        address,
+        valve,
+        reports,
+    } = contents.entry(key);
     let sum = servers.sum(key);
     let leader = sum.leader[0];
     let helper = sum.helper[0];
@@ -122,24 +123,6 @@ fn head<W: Write>(writer: &mut W, contents: &Contents) -> io::Result<()> {
     writeln!(writer, "valve decoded   true          decoded   true")
 }
 
-// The valve of a key of the first controller, and that of the second with the same number.
-fn line<W: Write>(
-    writer: &mut W,
-    contents: &Contents,
-    servers: &Servers,
-    one: Key,
-) -> Result<(), Failure> {
-    let other = Key {
-        controller: Controller::Second,
-        valve: one.valve,
-    };
-    let valve = contents.entry(one).valve;
-    let first = of_key(servers, one)?;
-    let second = of_key(servers, other)?;
-    writeln!(writer, "{valve:2}{first}{second}")?;
-    Ok(())
-}
-
 pub fn print<W: Write>(
     writer: &mut W,
     contents: &Contents,
@@ -147,11 +130,11 @@ pub fn print<W: Write>(
 ) -> Result<(), Failure> {
     head(writer, contents)?;
     for valve in 0..VALVES {
-        let one = Key {
-            controller: Controller::First,
-            valve,
-        };
-        line(writer, contents, servers, one)?;
+        let one = Key::at(valve);
+        let number = contents.entry(one).valve;
+        let first = of_key(servers, one)?;
+        let second = of_key(servers, Key::at(VALVES + valve))?;
+        writeln!(writer, "{number:2}{first}{second}")?;
     }
     let first = of_controller(servers, Controller::First)?;
     let second = of_controller(servers, Controller::Second)?;
