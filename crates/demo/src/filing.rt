@@ -1,164 +1,150 @@
-// The aggregates of a server without a file, one for each key. A key is a controller and a valve:
-// controller * 12 + valve, both counted from 0. A server's aggregates stand in one row.
-ghost use Rattle.std.specs.Prelude.{◌<◌, ◌≤◌};
-
-use crate::report::{DIMENSION, param, short};
-use crate::{day, made_up, row};
+// The aggregates of the servers, one for each key, and what both together give.
+use crate::key::{Controller, KEYS, Key, VALVES};
+use crate::made_up;
+use crate::refusal::{Refusal, check};
+use crate::report::{DIMENSION, Gradient, INPUT_LEN, Report, param};
 use pine::PineParam;
 use rules::Answer;
 
-pub const VALVES: usize = 12;
+// The elements of an aggregate.
+type Row = [u64; DIMENSION];
 
-pub const KEYS: usize = 24;
-
-// The aggregate of no shares.
-fn empty(aggregates: &mut [u64], key: usize) -> Answer
-    requires { key < 24 }
-{
-    let start = key * DIMENSION;
-    let end = start + DIMENSION;
-    if aggregates.len() < end {
-        return short();
-    }
-    vdaf::empty_aggregate(param(), &mut aggregates[start..end])
+// The aggregates of a server, in the keys' order.
+#[derive(Clone, Copy)]
+pub struct Aggregates {
+    pub rows: [Row; KEYS],
 }
 
-// 6. Or a server keeps its aggregates itself: it adds the gradient part of its full share to that of its key.
-pub fn file(param: PineParam, aggregates: &mut [u64], key: usize, share: &[u64]) -> Answer
-    requires { key < 24 }
-{
-    let start = key * DIMENSION;
-    let end = start + DIMENSION;
-    if aggregates.len() < end {
-        return short();
-    }
+// The two servers' aggregates of the same reports.
+#[derive(Clone, Copy)]
+pub struct Sum {
+    pub leader: Row,
+    pub helper: Row,
+}
+
+// Both servers, each with the aggregates of its own shares.
+#[derive(Clone, Copy)]
+pub struct Servers {
+    pub leader: Aggregates,
+    pub helper: Aggregates,
+}
+
+// The part of a full share that is added to an aggregate.
+pub fn gradient_part<'a>(param: PineParam, share: &'a [u64]) -> Result<&'a [u64], Refusal> {
     let mut number = 0;
     let mut place = 0;
     let gradient = parts::gradient_part(param, share, &mut number, &mut place);
-    if number != 0 {
-        return Answer { number, place };
-    }
-    vdaf::accumulate(param, &mut aggregates[start..end], gradient)
+    check(Answer { number, place })?;
+    Ok(gradient)
 }
 
-// A server's aggregates of a day, from its shares.
-pub fn file_all(shares: &[u64], aggregates: &mut [u64]) -> Answer {
-    let mut answer = Answer::accepted();
-    let mut key = 0;
-    while key < KEYS {
-        answer = answer.or(empty(aggregates, key));
-        answer = answer.or(file(param(), aggregates, key, day::full_share(shares, key)));
-        key += 1;
-    }
-    answer
+// The aggregate of no shares.
+fn empty() -> Result<Row, Refusal> {
+    let mut row = [0; DIMENSION];
+    check(vdaf::empty_aggregate(param(), &mut row))?;
+    Ok(row)
 }
 
-// 7. The two servers' aggregates of a key together give the sum of its gradients.
-pub fn read(leader: &[u64], helper: &[u64], key: usize, decoded: &mut [f64]) -> Answer
-    requires { key < 24 }
-{
-    let start = key * DIMENSION;
-    let end = start + DIMENSION;
-    if leader.len() < end {
-        return short();
+impl Aggregates {
+    fn empty() -> Result<Aggregates, Refusal> {
+        Ok(Aggregates {
+            rows: [empty()?; KEYS],
+        })
     }
-    if helper.len() < end {
-        return short();
+
+    // 6. Or a server keeps its aggregates itself: it adds the gradient part of its full share to that of its key.
+    fn add(&mut self, param: PineParam, key: Key, share: &[u64]) -> Result<(), Refusal> {
+        let gradient = gradient_part(param, share)?;
+        check(vdaf::accumulate(param, &mut self.rows[key.index()], gradient))
     }
-    vdaf::unshard(param(), &leader[start..end], &helper[start..end], decoded)
+
+    // 7. A server merges aggregates: here those of a controller's valves.
+    fn merged(&self, controller: Controller) -> Result<Row, Refusal> {
+        let rows = match controller {
+            Controller::First => &self.rows[..VALVES],
+            Controller::Second => &self.rows[VALVES..],
+        };
+        let mut total = empty()?;
+        for row in rows {
+            check(vdaf::merge(param(), &mut total, row))?;
+        }
+        Ok(total)
+    }
+
+    // 8. A grower withdraws: a server takes the gradient part of the share out of the aggregate of its key.
+    fn withdraw(&mut self, key: Key, share: &[u64]) -> Result<(), Refusal> {
+        let gradient = gradient_part(param(), share)?;
+        check(vdaf::subtract(param(), &mut self.rows[key.index()], gradient))
+    }
 }
 
-// Whether what was decoded for a key is the true sum: that of its one gradient.
-pub fn is_true(leader: &[u64], helper: &[u64], key: usize) -> bool
-    requires { key < 24 }
-{
-    let mut decoded = [0.0f64; 3];
-    let mut gradient = [0.0f64; 3];
-    made_up::gradient(key, &mut gradient);
-    let answer = read(leader, helper, key, &mut decoded);
-    answer.number == 0 && row::same_doubles(&decoded, &gradient)
+impl Sum {
+    // Where an aggregate that is withdrawn was merged before, each server takes it out of the merged one, too.
+    pub fn unmerge(&mut self, other: &Sum) -> Result<(), Refusal> {
+        check(vdaf::unmerge(param(), &mut self.leader, &other.leader))?;
+        check(vdaf::unmerge(param(), &mut self.helper, &other.helper))
+    }
+
+    // 9. The two servers' aggregates together give the sum of the gradients.
+    pub fn decode(&self) -> Result<Gradient, Refusal> {
+        let mut decoded = [0.0; DIMENSION];
+        check(vdaf::unshard(param(), &self.leader, &self.helper, &mut decoded))?;
+        Ok(decoded)
+    }
 }
 
-// How many keys' decoded rows are.
-pub fn true_keys(leader: &[u64], helper: &[u64]) -> u64 {
-    let mut n = 0;
-    let mut key = 0;
-    while key < KEYS {
-        n = day::more(n, is_true(leader, helper, key));
-        key += 1;
+impl Servers {
+    // The aggregates of a day's reports.
+    pub fn of(reports: &[Report<INPUT_LEN>]) -> Result<Servers, Refusal> {
+        let mut servers = Servers {
+            leader: Aggregates::empty()?,
+            helper: Aggregates::empty()?,
+        };
+        for report in reports {
+            servers.add(param(), report)?;
+        }
+        Ok(servers)
     }
-    n
-}
 
-// Adds the aggregate of a key to that of its controller.
-fn merge_key(total: &mut [u64], aggregates: &[u64], key: usize) -> Answer
-    requires { key < 24 }
-{
-    let start = key * DIMENSION;
-    let end = start + DIMENSION;
-    if aggregates.len() < end {
-        return short();
+    pub fn add<const N: usize>(
+        &mut self,
+        param: PineParam,
+        report: &Report<N>,
+    ) -> Result<(), Refusal> {
+        self.leader.add(param, report.key, &report.leader)?;
+        self.helper.add(param, report.key, &report.helper)
     }
-    vdaf::merge(param(), total, &aggregates[start..end])
-}
 
-// 8. A server merges aggregates: here those of a controller's valves, from the first key on.
-pub fn merge_valves(total: &mut [u64], aggregates: &[u64], first: usize) -> Answer
-    requires { first ≤ 12 }
-{
-    let mut answer = vdaf::empty_aggregate(param(), total);
-    let mut valve = 0;
-    while valve < VALVES {
-        answer = answer.or(merge_key(total, aggregates, first + valve));
-        valve += 1;
+    pub fn withdraw(&mut self, report: &Report<INPUT_LEN>) -> Result<(), Refusal> {
+        self.leader.withdraw(report.key, &report.leader)?;
+        self.helper.withdraw(report.key, &report.helper)
     }
-    answer
-}
 
-// 9. A grower withdraws: a server takes the gradient part of the share out of the aggregate of its key.
-pub fn withdraw(aggregates: &mut [u64], key: usize, share: &[u64]) -> Answer
-    requires { key < 24 }
-{
-    let start = key * DIMENSION;
-    let end = start + DIMENSION;
-    if aggregates.len() < end {
-        return short();
+    pub fn sum(&self, key: Key) -> Sum {
+        Sum {
+            leader: self.leader.rows[key.index()],
+            helper: self.helper.rows[key.index()],
+        }
     }
-    if share.len() < DIMENSION {
-        return short();
-    }
-    vdaf::subtract(param(), &mut aggregates[start..end], &share[0..DIMENSION])
-}
 
-// Where that aggregate was merged before, it takes it out of the merged one, too.
-pub fn unmerge_key(total: &mut [u64], aggregates: &[u64], key: usize) -> Answer
-    requires { key < 24 }
-{
-    let start = key * DIMENSION;
-    let end = start + DIMENSION;
-    if aggregates.len() < end {
-        return short();
+    pub fn total(&self, controller: Controller) -> Result<Sum, Refusal> {
+        Ok(Sum {
+            leader: self.leader.merged(controller)?,
+            helper: self.helper.merged(controller)?,
+        })
     }
-    vdaf::unmerge(param(), total, &aggregates[start..end])
-}
 
-// Adds the gradient of a key to a true sum, unless it was withdrawn.
-fn add_gradient(sum: &mut [f64], key: usize, withdrawn: usize) {
-    if key == withdrawn {
-        return;
+    // How many keys' decoded rows are the true sums: those of their one gradient.
+    pub fn true_keys(&self) -> usize {
+        (0..KEYS)
+            .map(Key::at)
+            .filter(|&key| self.is_true(key))
+            .count()
     }
-    let mut gradient = [0.0f64; 3];
-    made_up::gradient(key, &mut gradient);
-    row::add_doubles(sum, &gradient);
-}
 
-// The true sum over a controller's valves, without the key that was withdrawn, or over all for KEYS.
-pub fn add_gradients(sum: &mut [f64], first: usize, withdrawn: usize)
-    requires { first ≤ 12 }
-{
-    let mut valve = 0;
-    while valve < VALVES {
-        add_gradient(sum, first + valve, withdrawn);
-        valve += 1;
+    fn is_true(&self, key: Key) -> bool {
+        self.sum(key)
+            .decode()
+            .is_ok_and(|decoded| decoded == made_up::gradient(key))
     }
 }

@@ -6,14 +6,21 @@
 mod day;
 mod day_files;
 mod filing;
+mod key;
 mod made_up;
-mod print;
 mod probe;
+mod refusal;
 mod report;
-mod row;
 mod table;
 mod trial;
 
+use crate::day::{AGAIN, Day};
+use crate::day_files::DayFile;
+use crate::filing::Servers;
+use crate::key::{KEYS, Key, VALVES};
+use crate::probe::SquaredNorm;
+use crate::refusal::{Failure, Outcome};
+use crate::report::Side;
 use pine::WrTestRule;
 use std::io;
 use std::io::Write;
@@ -31,221 +38,171 @@ fn lengths_are_derived() -> bool {
 }
 
 // Whether all reports are valid: a server files no other.
-fn first_day<W: Write>(
-    writer: &mut W,
-    leaders: &mut [u64],
-    helpers: &mut [u64],
-    given: &mut [u8],
-) -> io::Result<bool> {
-    print::text(
+fn first_day<W: Write>(writer: &mut W, day: &mut Day) -> io::Result<bool> {
+    writeln!(
         writer,
-        b"day 1: each report made with one call, in fresh rows\n",
+        "day 1: each report made with one call, in fresh rows"
     )?;
-    let valid = day::first(leaders, helpers, given);
-    print::counted(
+    let valid = day.first();
+    writeln!(
         writer,
-        valid,
-        b" of 24 reports cut, tested by both servers, and valid\n",
+        "{valid} of {KEYS} reports cut, tested by both servers, and valid"
     )?;
-    Ok(valid == filing::KEYS as u64)
+    Ok(valid == KEYS)
 }
 
 // What the two servers' files hold: their contents, and their bodies.
-fn show_files<W: Write>(
-    writer: &mut W,
-    contents: &[u8],
-    helper_contents: &[u8],
-    leader: &[u64],
-    helper: &[u64],
-) -> io::Result<()> {
-    print::text(writer, b"the two servers' files, by address and valve: ")?;
-    print::counted(writer, day_files::all_reports(contents), b" and ")?;
-    print::counted(
+fn show_files<W: Write>(writer: &mut W, leader: &DayFile, helper: &DayFile) -> Result<(), Failure> {
+    let (contents, leader) = leader.read()?;
+    let (helper_contents, helper) = helper.read()?;
+    let servers = Servers { leader, helper };
+    let reports = contents.all_reports();
+    let helper_reports = helper_contents.all_reports();
+    writeln!(
         writer,
-        day_files::all_reports(helper_contents),
-        b" reports\n",
+        "the two servers' files, by address and valve: {reports} and {helper_reports} reports"
     )?;
-    table::bodies(writer, contents, leader, helper, 12)?;
-    table::print(writer, contents, leader, helper)?;
-    sums(writer, leader, helper)
+    table::bodies(writer, &contents, &servers, Key::at(VALVES))?;
+    table::print(writer, &contents, &servers)?;
+    sums(writer, &servers)?;
+    Ok(())
 }
 
-fn show_lengths<W: Write>(writer: &mut W, leader_len: usize, helper_len: usize) -> io::Result<()> {
-    print::text(writer, b"each server files its shares alone: ")?;
-    print::counted(writer, leader_len as u64, b" and ")?;
-    print::counted(writer, helper_len as u64, b" bytes, at most ")?;
-    print::counted(writer, day_file::file_max(report::param(), 24).len, b"\n")
-}
-
-fn files<W: Write>(
-    writer: &mut W,
-    leader: &[u8],
-    leader_len: usize,
-    helper: &[u8],
-    helper_len: usize,
-) -> io::Result<()> {
-    let mut contents = [0u8; 288];
-    let mut helper_contents = [0u8; 288];
-    let mut leader_bodies = [0u64; 72];
-    let mut helper_bodies = [0u64; 72];
-    let of_leader = day_files::read(leader, leader_len, &mut contents, &mut leader_bodies);
-    let of_helper = day_files::read(helper, helper_len, &mut helper_contents, &mut helper_bodies);
-    let answer = of_leader.or(of_helper);
-    if answer.number != 0 {
-        print::text(writer, b"a file was refused by ")?;
-        print::answer(writer, answer)?;
-        return print::text(writer, b"\n");
-    }
-    show_files(
+fn show_lengths<W: Write>(writer: &mut W, leader: &DayFile, helper: &DayFile) -> io::Result<()> {
+    let leader_len = leader.bytes().len();
+    let helper_len = helper.bytes().len();
+    let most = day_file::file_max(report::param(), KEYS as u32).len;
+    writeln!(
         writer,
-        &contents,
-        &helper_contents,
-        &leader_bodies,
-        &helper_bodies,
+        "each server files its shares alone: {leader_len} and {helper_len} bytes, at most {most}"
     )
 }
 
-// Each server has two rows, with room for the file of 25 keys.
-fn filed<W: Write>(
-    writer: &mut W,
-    leaders: &[u64],
-    helpers: &[u64],
-    given: &[u8],
-) -> io::Result<()> {
-    let mut leader = [0u8; 906];
-    let mut helper = [0u8; 906];
-    let mut second = [0u8; 906];
-    let leader_len = day_files::add_all(leaders, &mut leader, &mut second);
-    let helper_len = day_files::add_all(helpers, &mut helper, &mut second);
-    show_lengths(writer, leader_len, helper_len)?;
-    files(writer, &leader, leader_len, &helper, helper_len)?;
-    print::text(
-        writer,
-        b"a damaged report of controller 1, valve 3: refused by ",
-    )?;
-    print::answer(
-        writer,
-        day::damaged(2, leaders, given, &leader, leader_len, &mut second),
-    )?;
-    print::text(writer, b"\n")
+fn filed<W: Write>(writer: &mut W, day: &Day) -> Result<(), Failure> {
+    let leader = DayFile::of(&day.reports, Side::Leader)?;
+    let helper = DayFile::of(&day.reports, Side::Helper)?;
+    show_lengths(writer, &leader, &helper)?;
+    show_files(writer, &leader, &helper)?;
+    let key = Key::at(2);
+    let damaged = Outcome {
+        result: day.damaged(key, &leader),
+        accepted: "filed",
+    };
+    writeln!(writer, "a damaged report of {key}: {damaged}")?;
+    Ok(())
 }
 
-fn second_day<W: Write>(
-    writer: &mut W,
-    leaders: &[u64],
-    helpers: &[u64],
-    given: &[u8],
-) -> io::Result<()> {
-    print::text(writer, b"day 2: controller 1, valves 1 to ")?;
-    print::counted(
+fn second_day<W: Write>(writer: &mut W, day: &Day) -> io::Result<()> {
+    writeln!(
         writer,
-        day::AGAIN as u64,
-        b": the same reports, in rows left from the last caller\n",
+        "day 2: controller 1, valves 1 to {AGAIN}: the same reports, in rows left from the last caller"
     )?;
-    print::counted(writer, day::second(leaders, helpers, given), b" of ")?;
-    print::counted(
+    let same = day.second();
+    writeln!(
         writer,
-        day::AGAIN as u64,
-        b" reports equal, element by element, those made in fresh rows\n",
+        "{same} of {AGAIN} reports equal, element by element, those made in fresh rows"
     )
 }
 
-fn sums<W: Write>(writer: &mut W, leader: &[u64], helper: &[u64]) -> io::Result<()> {
-    print::counted(
+fn sums<W: Write>(writer: &mut W, servers: &Servers) -> io::Result<()> {
+    let equal = servers.true_keys();
+    writeln!(
         writer,
-        filing::true_keys(leader, helper),
-        b" of 24 keys: the decoded row equals the true sums in all 3 coordinates\n",
+        "{equal} of {KEYS} keys: the decoded row equals the true sums in all 3 coordinates"
     )
 }
 
 fn withdrawal<W: Write>(
     writer: &mut W,
-    leaders: &[u64],
-    helpers: &[u64],
-    leader: &mut [u64],
-    helper: &mut [u64],
-) -> io::Result<()> {
-    print::text(
-        writer,
-        b"controller 1, valve 10 withdraws after the sums have begun\n",
-    )?;
-    table::without(writer, leader, helper, 9)?;
-    filing::withdraw(leader, 9, day::full_share(leaders, 9));
-    filing::withdraw(helper, 9, day::full_share(helpers, 9));
-    table::nothing_left(writer, leader, helper, 9)
+    day: &Day,
+    servers: &mut Servers,
+    key: Key,
+) -> Result<(), Failure> {
+    writeln!(writer, "{key} withdraws after the sums have begun")?;
+    table::without(writer, servers, key)?;
+    servers.withdraw(day.report(key))?;
+    table::nothing_left(writer, servers, key)
 }
 
-fn trial_block<W: Write>(writer: &mut W, leader: &mut [u64], helper: &mut [u64]) -> io::Result<()> {
+// A valve that files, and the next, whose test misses.
+fn trial_block<W: Write>(
+    writer: &mut W,
+    servers: &mut Servers,
+    key: Key,
+    missing: Key,
+) -> Result<(), Failure> {
     let pine = params::derive(trial::param(WrTestRule::Every)).pine;
-    print::text(
+    let bound = pine.wr_test_bound();
+    let encoded_len = pine.encoded_input_len;
+    writeln!(
         writer,
-        b"a trial block with the multiplier 1/3: the tests' bound is ",
+        "a trial block with the multiplier 1/3: the tests' bound is {bound}, not 64, and a measurement has {encoded_len} elements"
     )?;
-    print::counted(
-        writer,
-        pine.wr_test_bound(),
-        b", not 64, and a measurement has ",
-    )?;
-    print::counted(writer, pine.encoded_input_len, b" elements\n")?;
-    print::text(writer, b"controller 1, valve 9: ")?;
-    trial::print(writer, 8)?;
-    print::text(writer, b"; valve 10: ")?;
-    trial::print(writer, 9)?;
-    print::text(writer, b"\nwhere 1 of the 2 tests is enough, valve 10: ")?;
-    if trial::file(9, leader, helper) {
-        print::text(writer, b"cut, tested by both servers, valid and filed\n")?;
+    let first = trial::cut(key);
+    let second = trial::cut(missing);
+    let valve = missing.valve + 1;
+    writeln!(writer, "{key}: {first}; valve {valve}: {second}")?;
+    let filed = if trial::is_filed(missing, servers) {
+        "cut, tested by both servers, valid and filed"
     } else {
-        print::text(writer, b"not filed\n")?;
-    }
-    table::filed_again(writer, leader, helper, 9)
+        "not filed"
+    };
+    writeln!(
+        writer,
+        "where 1 of the 2 tests is enough, valve {valve}: {filed}"
+    )?;
+    table::filed_again(writer, servers, missing)
 }
 
 // The servers that keep their aggregates themselves.
-fn aggregates<W: Write>(writer: &mut W, leaders: &[u64], helpers: &[u64]) -> io::Result<()> {
-    let mut leader = [0u64; 72];
-    let mut helper = [0u64; 72];
-    print::text(
+fn aggregates<W: Write>(writer: &mut W, day: &Day) -> Result<(), Failure> {
+    writeln!(
         writer,
-        b"two servers that keep their aggregates without a file\n",
+        "two servers that keep their aggregates without a file"
     )?;
-    filing::file_all(leaders, &mut leader);
-    filing::file_all(helpers, &mut helper);
-    sums(writer, &leader, &helper)?;
-    withdrawal(writer, leaders, helpers, &mut leader, &mut helper)?;
-    trial_block(writer, &mut leader, &mut helper)
+    let mut servers = Servers::of(&day.reports)?;
+    sums(writer, &servers)?;
+    let tenth = Key::at(9);
+    withdrawal(writer, day, &mut servers, tenth)?;
+    trial_block(writer, &mut servers, Key::at(8), tenth)
 }
 
 fn broken_probe<W: Write>(writer: &mut W) -> io::Result<()> {
-    print::text(
+    let reduced = probe::encode(SquaredNorm::Reduced);
+    let bounded = probe::encode(SquaredNorm::True);
+    writeln!(
         writer,
-        b"a broken probe, whose squared norm modulo p is 0: ",
+        "a broken probe, whose squared norm modulo p is 0: {reduced}; with the switch for the true one: {bounded}"
+    )
+}
+
+fn whole_day<W: Write>(writer: &mut W) -> Result<(), Failure> {
+    if !lengths_are_derived() {
+        writeln!(
+            writer,
+            "the parameters derive other lengths than these rows have"
+        )?;
+        return Ok(());
+    }
+    writeln!(
+        writer,
+        "d 3, f 2, n 7, T 2, K 2: a measurement has 31 elements, a full share 33"
     )?;
-    probe::print(writer, false)?;
-    print::text(writer, b"; with the switch for the true one: ")?;
-    probe::print(writer, true)?;
-    print::text(writer, b"\n")
+    let mut day = Day::fresh();
+    if first_day(writer, &mut day)? {
+        filed(writer, &day)?;
+        second_day(writer, &day)?;
+        aggregates(writer, &day)?;
+        broken_probe(writer)?;
+    }
+    Ok(())
 }
 
 fn main(rt: HostRuntime) -> io::Result<()> {
     let mut writer = io::writer(&rt);
-    if !lengths_are_derived() {
-        return print::text(
-            &mut writer,
-            b"the parameters derive other lengths than these rows have\n",
-        );
+    match whole_day(&mut writer) {
+        Ok(()) => Ok(()),
+        Err(Failure::Io(error)) => Err(error),
+        Err(Failure::Refused(refusal)) => writeln!(writer, "a call was {refusal}"),
     }
-    print::text(
-        &mut writer,
-        b"d 3, f 2, n 7, T 2, K 2: a measurement has 31 elements, a full share 33\n",
-    )?;
-    let mut leaders = [0u64; 792];
-    let mut helpers = [0u64; 792];
-    let mut given = [0u8; 768];
-    if !first_day(&mut writer, &mut leaders, &mut helpers, &mut given)? {
-        return Ok(());
-    }
-    filed(&mut writer, &leaders, &helpers, &given)?;
-    second_day(&mut writer, &leaders, &helpers, &given)?;
-    aggregates(&mut writer, &leaders, &helpers)?;
-    broken_probe(&mut writer)
 }

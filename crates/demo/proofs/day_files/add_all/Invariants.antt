@@ -1,5 +1,0 @@
-use Rattle.std.proofs.Common.{◌-◌}
-use Rattle.demo.proofs.day_files.add_all.Given as goal
-
-abbrev pub decreases-loop-valve : goal.decreases-loop-valve
-decreases-loop-valve l = 12 - l.valve
