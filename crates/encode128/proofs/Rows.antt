@@ -3,13 +3,13 @@ use mathlib.Core.Path.{◌≡◌, sym, ap, ◌∙◌}
 use mathlib.Core.List.{List}
 use Prim.Native.Nat.{ℕ, ◌+◌, ◌*◌, ◌/◌, ◌^◌, ◌≤◌, ◌<◌}
 use native.Mathlib.Omega.{arith}
-use lib.ListN.{length, take, replicate}
+use lib.ListN.{length, take, replicate, length-replicate}
+use lib.Seq.{length-take-le}
 use Rattle.pine.specs.declared.record.Pine.{Pine}
 use Rattle.pine.specs.Record.{pine_of, FromDerivable}
 use Rattle.pine.proofs.Sizes.{sizes_of, small}
 use Rattle.field128.specs.Field128.{elements_of, words_of}
 use Rattle.field128.proofs.Pairs.{words_length, elements_length}
-use Rattle.gradient.proofs.Norm.{part_long}
 
 -- ---- of a record that was derived
 module _ (R : Pine) (d : FromDerivable R) where
@@ -19,6 +19,10 @@ module _ (R : Pine) (d : FromDerivable R) where
 
   pub words_fit : (2 * R.encoded_input_len < 2 ^ 64) × (2 * R.num_wr_tests < 2 ^ 64)
   words_fit = (omega (arith, encoded), omega (arith, (small R d).tests))
+
+-- a row's start, of the row that is filled with 0 first
+pub part_long : (most n : ℕ) → n ≤ most → length (take n (replicate {A = ℕ} most 0)) ≡ n
+part_long most n h = length-take-le n (replicate {A = ℕ} most 0) (rw (length-replicate {A = ℕ} most 0) h)
 
 -- ---- the starts of rows that are filled with 0 first: one of n words, one of as many words as that has elements
 pub halves : (n : ℕ) → n ≤ 512 → length (take (n / 2) (replicate {A = ℕ} 256 0)) ≡ length (elements_of (take n (replicate {A = ℕ} 512 0)))

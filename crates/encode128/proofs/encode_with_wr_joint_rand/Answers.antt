@@ -1,8 +1,7 @@
 -- `encode128::encode_with_wr_joint_rand` meets its contract. Assumes nothing.
 use mathlib.Core.Path.{◌∙◌}
 use native.Mathlib.Omega.{arith}
-use Rattle.gradient.proofs.Norm.{part_long}
-use Rattle.encode128.proofs.Rows.{halves}
+use Rattle.encode128.proofs.Rows.{part_long, halves}
 use Rattle.encode128.proofs.encode_with_wr_joint_rand.Goals as goal
 
 pub encode_in-requires : goal.encode_in-requires
