@@ -67,10 +67,8 @@ fn decode_sums(left: &[u64], right: &[u64], scale: f64, frac_bits: u64, decoded:
     requires scale_value { scale ≡ power frac_bits }
     ensures { decoded.new ≡ decoded_sums p64 frac_bits left.now right.now }
 {
-    let mut i = 0;
-    while i < decoded.len() {
+    for i in 0..decoded.len() {
         decoded[i] = doubles::decode(field64::add(left[i], right[i]), scale, frac_bits);
-        i += 1;
     }
 }
 

@@ -1,10 +1,8 @@
 -- `vdaf::decode_sums` meets its contract. Assumes nothing.
 use mathlib.Core.List.{List}
-use Prim.Native.Nat.{ℕ, ◌-◌}
-use lib.ListN.{length}
+use Prim.Native.Nat.{ℕ}
 use lib.Ieee.{Float}
 use Rattle.field64.specs.Field.{p64}
-use Rattle.doubles.specs.Doubles.{decoded}
 use Rattle.rows.proofs.Walk.{Walking}
 use Rattle.vdaf.specs.Aggregates.{decoded_sums}
 use Rattle.vdaf.proofs.decode_sums.Given as goal
@@ -15,6 +13,3 @@ Inv f l r d a i = Walking (decoded_sums p64 f l r) d a i
 
 abbrev pub invariant-loop-i : goal.invariant-loop-i
 invariant-loop-i l = Inv l.frac_bits l.left l.right l.initial.decoded l.decoded l.i
-
-abbrev pub decreases-loop-i : goal.decreases-loop-i
-decreases-loop-i l = length l.initial.decoded - l.i
