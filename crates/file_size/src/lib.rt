@@ -42,8 +42,15 @@ fn insert(row: &mut [u64], i: usize, n: usize, x: u64)
     requires { (i ≤ n) × (n < length row.old) }
     ensures { row.new ≡ moved i n x row.old }
 {
-    row.copy_within(i..n, i + 1);
-    row[i] = x;
+    let mut carried = x;
+    let mut at = i;
+    // By steps: of `copy_within` LLVM makes a call of memmove, which the archive may not take from a C library.
+    while at <= n {
+        let next = row[at];
+        row[at] = carried;
+        carried = next;
+        at += 1;
+    }
 }
 
 // Counts one report more of the key at i.
