@@ -147,5 +147,8 @@ pub fn copy_row(from: &[u64], to: &mut [u64])
     requires { length to.old ≡ length from.now }
     ensures { to.new ≡ from.now }
 {
-    to.copy_from_slice(from);
+    // By index: the library's copy may be a call of memmove, which the archive does not take from a C library.
+    for i in 0..to.len() {
+        to[i] = from[i];
+    }
 }
