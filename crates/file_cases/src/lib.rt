@@ -31,6 +31,7 @@ fn read_lens(dimension: u64, file: &[u8]) -> [u64; 2] {
     [contents, bodies]
 }
 
+#[inline(never)]
 pub fn read<W: Write>(mut case: Case<'_>, out: &mut W) -> Answered {
     let mut file = [0u8; 262144];
     let mut contents = [0u8; 262144];
@@ -48,6 +49,7 @@ pub fn read<W: Write>(mut case: Case<'_>, out: &mut W) -> Answered {
     answer_lent(out, read, kept, given)
 }
 
+#[inline(never)]
 pub fn write<W: Write>(mut case: Case<'_>, out: &mut W) -> Answered {
     let mut contents = [0u8; 262144];
     let mut bodies = [0u64; 32768];
@@ -75,6 +77,7 @@ pub fn max<W: Write>(mut case: Case<'_>, out: &mut W) -> Answered {
     answer_len(out, day_file::file_max(param, reports))
 }
 
+#[inline(never)]
 pub fn size<W: Write>(mut case: Case<'_>, out: &mut W) -> Answered {
     let mut keys = [0u8; 262144];
     let param = case.param()?;
@@ -106,6 +109,7 @@ fn second_len(dimension: u64, old: u64) -> u64 {
     }
 }
 
+#[inline(never)]
 pub fn add<W: Write>(mut case: Case<'_>, out: &mut W) -> Answered {
     let mut key = [0u8; 8];
     let mut old = [0u8; 262144];

@@ -1,28 +1,14 @@
 // Reads the words of a line. Runs of ASCII whitespace part them.
-ghost use Rattle.std.specs.Prelude.{◌≤◌};
+ghost use Rattle.std.specs.Prelude.{◌≤◌, ◌<◌, IfOk};
 
 use crate::field::Field;
 use crate::patterns::double_of;
 use crate::row;
-use std::num::{ParseIntError, TryFromIntError};
-use std::str;
-use std::str::Utf8Error;
+use std::num::TryFromIntError;
 
 // A word is missing, or is not of the form asked for, or is one too many.
 #[derive(Clone, Copy)]
 pub struct Malformed;
-
-impl From<Utf8Error> for Malformed {
-    fn from(_error: Utf8Error) -> Malformed {
-        Malformed
-    }
-}
-
-impl From<ParseIntError> for Malformed {
-    fn from(_error: ParseIntError) -> Malformed {
-        Malformed
-    }
-}
 
 impl From<TryFromIntError> for Malformed {
     fn from(_error: TryFromIntError) -> Malformed {
@@ -30,20 +16,52 @@ impl From<TryFromIntError> for Malformed {
     }
 }
 
-// The number below 2^128 that a word's digits stand for.
-fn number(word: &[u8], base: u32) -> Result<u128, Malformed>
-    requires least { 2 ≤ base }
-    requires most { base ≤ 36 }
+// The value of a digit.
+fn digit<const BASE: u32>(b: u8) -> Result<u32, Malformed>
+    requires least { 2 ≤ BASE }
+    requires most { BASE ≤ 36 }
+    ensures { IfOk result (λ d. d < BASE) }
 {
-    // The library would take the sign.
-    if word.starts_with(b"+") {
-        return Err(Malformed);
-    }
-    Ok(u128::from_str_radix(str::from_utf8(word)?, base)?)
+    char::from(b).to_digit(BASE).ok_or(Malformed)
 }
 
-fn decimal(word: &[u8]) -> Result<u64, Malformed> {
-    Ok(u64::try_from(number(word, 10)?)?)
+// The number below 2^64 that a word's digits stand for. Digit by digit: the library's `from_str_radix` wants a word of UTF-8,
+// takes a sign, and its numbers have 128 bits.
+fn number<const BASE: u32>(word: &[u8]) -> Result<u64, Malformed>
+    requires least { 2 ≤ BASE }
+    requires most { BASE ≤ 36 }
+{
+    if word.is_empty() {
+        return Err(Malformed);
+    }
+    let mut n: u64 = 0;
+    for &b in word {
+        let shifted = n.checked_mul(u64::from(BASE)).ok_or(Malformed)?;
+        n = shifted
+            .checked_add(u64::from(digit::<BASE>(b)?))
+            .ok_or(Malformed)?;
+    }
+    Ok(n)
+}
+
+// The same below 2^128, of hexadecimal digits.
+fn wide_number(word: &[u8]) -> Result<u128, Malformed> {
+    if word.is_empty() {
+        return Err(Malformed);
+    }
+    let mut n: u128 = 0;
+    for &b in word {
+        if n >> 124 != 0 {
+            return Err(Malformed);
+        }
+        n = n << 4 | u128::from(digit::<16>(b)?);
+    }
+    Ok(n)
+}
+
+// A word without the 0x that may stand before it.
+fn after_0x(word: &[u8]) -> &[u8] {
+    word.strip_prefix(b"0x").unwrap_or(word)
 }
 
 // The words that are still to be read.
@@ -70,18 +88,17 @@ impl<'a> Words<'a> {
     }
 
     pub fn decimal(&mut self) -> Result<u64, Malformed> {
-        decimal(self.word().ok_or(Malformed)?)
+        number::<10>(self.word().ok_or(Malformed)?)
     }
 
     // A hexadecimal number below 2^128. 0x may stand before it.
     pub fn wide_hex(&mut self) -> Result<u128, Malformed> {
-        let word = self.word().ok_or(Malformed)?;
-        number(word.strip_prefix(b"0x").unwrap_or(word), 16)
+        wide_number(after_0x(self.word().ok_or(Malformed)?))
     }
 
     // A hexadecimal number below 2^64.
     pub fn hex(&mut self) -> Result<u64, Malformed> {
-        Ok(u64::try_from(self.wide_hex()?)?)
+        number::<16>(after_0x(self.word().ok_or(Malformed)?))
     }
 
     pub fn double(&mut self) -> Result<f64, Malformed> {
@@ -150,8 +167,8 @@ impl<'a> Words<'a> {
             return Err(Malformed);
         };
         let read = row.get_mut(..pairs.len()).ok_or(Malformed)?;
-        for (byte, pair) in read.iter_mut().zip(pairs) {
-            *byte = u8::try_from(number(pair, 16)?)?;
+        for (byte, &[high, low]) in read.iter_mut().zip(pairs) {
+            *byte = (16 * digit::<16>(high)? + digit::<16>(low)?) as u8;
         }
         Ok(read)
     }
@@ -173,7 +190,7 @@ impl<'a> Words<'a> {
             let Some(word) = self.word() else {
                 return Ok(lens);
             };
-            *len = decimal(word)?;
+            *len = number::<10>(word)?;
         }
         match self.word() {
             None => Ok(lens),

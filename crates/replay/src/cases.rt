@@ -73,6 +73,8 @@ impl Command {
         Ok(command)
     }
 
+    // Each command with rows has a frame of its own (`inline(never)`): were they laid out here, every line would take the
+    // stack of all, and touch each page of it.
     fn answer<W: Write>(self, case: Case<'_>, out: &mut W) -> Answered {
         match self {
             Command::Params(field) => values::params(field, case, out),

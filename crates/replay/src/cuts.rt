@@ -9,6 +9,7 @@ use std::io::Write;
 // The bytes of the two seeds that are given.
 const GIVEN: u64 = 32;
 
+#[inline(never)]
 pub fn cut<W: Write>(mut case: Case<'_>, out: &mut W) -> Answered {
     let mut gradient = [0.0f64; 8192];
     let mut nonce = [0u8; 262144];
@@ -33,6 +34,7 @@ pub fn cut<W: Write>(mut case: Case<'_>, out: &mut W) -> Answered {
     answer_lent(out, answer, kept, format_args!("{leader} {helper} {given}"))
 }
 
+#[inline(never)]
 pub fn sample<W: Write>(mut case: Case<'_>, out: &mut W) -> Answered {
     let mut stream = [0u8; 262144];
     let mut share = [0u64; 16384];

@@ -5,6 +5,7 @@ use case_inputs::Case;
 use lines::row;
 use std::io::Write;
 
+#[inline(never)]
 pub fn load<W: Write>(mut case: Case<'_>, out: &mut W) -> Answered {
     let mut text = [0u8; 262144];
     let mut report = [0u8; load_report::MAX_REPORT_LEN];

@@ -47,6 +47,7 @@ fn make_encode(
     }
 }
 
+#[inline(never)]
 pub fn encode<W: Write>(kind: WrBytes, mut case: Case<'_>, out: &mut W) -> Answered {
     let mut gradient = [0.0f64; 8192];
     let mut bytes = [0u8; 262144];
@@ -83,6 +84,7 @@ fn make_wrtests(
     }
 }
 
+#[inline(never)]
 pub fn wrtests<W: Write>(kind: WrBytes, mut case: Case<'_>, out: &mut W) -> Answered {
     let mut gradient = [0u64; 16384];
     let mut bytes = [0u8; 262144];

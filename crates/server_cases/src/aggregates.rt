@@ -56,6 +56,7 @@ fn add(
 }
 
 // merge, accumulate, subtract or unmerge.
+#[inline(never)]
 pub fn add_row<W: Write>(field: Field, call: Call, mut case: Case<'_>, out: &mut W) -> Answered {
     let mut agg = [0u64; 16384];
     let mut share = [0u64; 16384];
@@ -100,6 +101,7 @@ fn add_rows(
     Ok(sum)
 }
 
+#[inline(never)]
 pub fn aggregate<W: Write>(field: Field, mut case: Case<'_>, out: &mut W) -> Answered {
     let mut agg = [0u64; 16384];
     let mut share = [0u64; 16384];
@@ -131,6 +133,7 @@ fn make_unshard(
     }
 }
 
+#[inline(never)]
 pub fn unshard<W: Write>(field: Field, mut case: Case<'_>, out: &mut W) -> Answered {
     let mut left = [0u64; 16384];
     let mut right = [0u64; 16384];

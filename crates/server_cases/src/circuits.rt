@@ -18,6 +18,7 @@ fn answer_circuit128<W: Write>(out: &mut W, circuit: Circuit128) -> Answered {
     answer(out, circuit.answer, given)
 }
 
+#[inline(never)]
 pub fn valid<W: Write>(field: Field, mut case: Case<'_>, out: &mut W) -> Answered {
     let mut full = [0u64; 32768];
     let mut joint_rand = [0u64; 16384];
@@ -37,6 +38,7 @@ pub fn valid<W: Write>(field: Field, mut case: Case<'_>, out: &mut W) -> Answere
 }
 
 // The second circuit has no joint randomness: after the full vector stands the count 0.
+#[inline(never)]
 pub fn valideq<W: Write>(field: Field, mut case: Case<'_>, out: &mut W) -> Answered {
     let mut full = [0u64; 32768];
     let param = case.param()?;

@@ -28,6 +28,7 @@ fn part_of<'a>(
     }
 }
 
+#[inline(never)]
 pub fn answer_part<W: Write>(part: Part, mut case: Case<'_>, out: &mut W) -> Answered {
     let mut full = [0u64; 16384];
     let param = case.param()?;
