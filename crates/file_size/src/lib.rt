@@ -26,7 +26,19 @@ fn find(keys: &[u64], n: usize, key: u64) -> usize
     requires { (n ≤ length keys.now) × (rising (take n keys.now) ≡ true) }
     ensures { result ≡ index key (take n keys.now) }
 {
-    keys[..n].partition_point(|&other| other < key)
+    // By hand: the library's `partition_point` takes each half by its data, without a branch, and took up to four times as
+    // long where the keys of a day come in turn.
+    let mut low = 0;
+    let mut high = n;
+    while low < high {
+        let middle = low + (high - low) / 2;
+        if keys[middle] < key {
+            low = middle + 1;
+        } else {
+            high = middle;
+        }
+    }
+    low
 }
 
 // Whether the key is among the n keys, i being the index of the first that is not below it.
