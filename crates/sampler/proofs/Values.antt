@@ -5,14 +5,15 @@ use mathlib.Core.List.{List, [], ◌∷◌, ◌++◌}
 use Prim.Native.Nat.{ℕ, suc, ◌+◌, ◌-◌, ◌*◌, ◌/◌, ◌≤◌, ◌<◌}
 use native.Mathlib.Omega.{arith}
 use lib.ListN.{length, take, drop, length-append, take-append-drop}
-use lib.Seq.{take_at, drop_at}
+use lib.Seq.{take_at, take-take, drop_at}
 use lib.Dec.{ltb}
 use mir.Val.{bool_byte}
-use borrow.Author.Tests.{ltb-true}
+use borrow.Author.Tests.{ltb-true, le-ltb}
+use Rattle.rules.specs.Rules.{accepted}
 use Rattle.rows.specs.Rows.{Below}
 use Rattle.octets.specs.Octets.{from_bytes, elements_in}
 use Rattle.octets.proofs.Bytes.{length-elements_in, elements_in-drop, elements_in-take, elements_in_front}
-use Rattle.sampler.specs.Sampler.{draw_limit, kept_of, values_of}
+use Rattle.sampler.specs.Sampler.{draw_limit, kept_of, values_of, sampled, draws_rule}
 
 -- ---- those of a row that are kept
 
@@ -85,6 +86,23 @@ module _ (p : ℕ) where
   module _ (n u k : ℕ) (bytes : List ℕ) (l : u ≤ draw_limit n) where
     all : values_of p (draw_limit n) bytes ≡ values_of p u bytes ++ values_of p (draw_limit n - u) (drop (8 * u) bytes)
     all = let e : draw_limit n ≡ u + (draw_limit n - u) = omega arith in ap (λ (m : ℕ). values_of p m bytes) e ∙ values_add u (draw_limit n - u) bytes
+
+    -- the values up to u are the first of them
+    pub sampled_front : length (values_of p u bytes) ≤ n → take (length (values_of p u bytes)) (sampled p n bytes) ≡ values_of p u bytes
+    unfolding sampled
+    sampled_front h =
+        let v = values_of p u bytes in
+        take-take (length v) n (values_of p (draw_limit n) bytes) h ∙ ap (take (length v)) all ∙ take_at v (values_of p (draw_limit n - u) (drop (8 * u) bytes)) (length v) refl
+
+    pub found : length (values_of p u bytes) ≡ n → sampled p n bytes ≡ values_of p u bytes
+    unfolding sampled
+    found e = ap (take n) all ∙ take_at (values_of p u bytes) (values_of p (draw_limit n - u) (drop (8 * u) bytes)) n e
+
+    pub enough : length (values_of p u bytes) ≡ n → draws_rule p n bytes ≡ accepted
+    unfolding draws_rule
+    enough e =
+        let h : n ≤ length (values_of p (draw_limit n) bytes) = rw all (rw (length-append (values_of p u bytes) (values_of p (draw_limit n - u) (drop (8 * u) bytes))) (omega arith)) in
+        rw (le-ltb (length (values_of p (draw_limit n) bytes)) n h)
 
   -- ---- counting those of a whole row of bytes
 
