@@ -1,4 +1,5 @@
 // Of `replay`: the commands on a day's file.
+// Each has its rows in a frame of its own: see `Command::answer` of `replay`.
 #![tactic(auto)]
 
 use answers::print::{Bytes, Elements};

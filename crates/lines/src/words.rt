@@ -25,8 +25,8 @@ fn digit<const BASE: u32>(b: u8) -> Result<u32, Malformed>
     char::from(b).to_digit(BASE).ok_or(Malformed)
 }
 
-// The number below 2^64 that a word's digits stand for. Digit by digit: the library's `from_str_radix` wants a word of UTF-8,
-// takes a sign, and its numbers have 128 bits.
+// The number below 2^64 that a word's digits stand for. Digit by digit: the library's `from_str_radix` takes a sign, and a word
+// only as UTF-8, so that it would be read twice.
 fn number<const BASE: u32>(word: &[u8]) -> Result<u64, Malformed>
     requires least { 2 ≤ BASE }
     requires most { BASE ≤ 36 }

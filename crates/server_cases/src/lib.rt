@@ -1,4 +1,5 @@
 // Of `replay`: the commands of a server, on aggregates, on the validity circuits and on the parts of a full vector.
+// Each has its rows in a frame of its own: see `Command::answer` of `replay`.
 #![tactic(auto)]
 
 pub mod aggregates;
